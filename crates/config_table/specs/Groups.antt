@@ -1,0 +1,44 @@
+-- A group and its live members.
+use Rattle.std.specs.Prelude.{ℕ, Bool, not, ◌&&◌, ◌==◌, nat_lt, List, map, filter, length}
+use Rattle.std.specs.List.{list_any, enumerate_from}
+use Rattle.ftpp_base.specs.Sets.{has}
+use Rattle.ftpp_base.specs.declared.element.Proc.{Proc}
+use Rattle.config_table.specs.declared.groups.Group.{Group}
+
+abbrev pub same_proc : Proc → Proc → Bool
+same_proc a b = a.ne == b.ne && a.port == b.port
+
+-- the members in the order of the table
+abbrev pub members_of : Group → List Proc
+members_of g = g.members.items
+
+-- whether the processor is a member
+abbrev pub is_member : Group → Proc → Bool
+is_member g proc = list_any (same_proc proc) (members_of g)
+
+-- whether there is a member of that index and it is not masked
+abbrev pub is_live : Group → ℕ → Bool
+is_live g index = nat_lt index (length (members_of g)) && not (has g.masked index)
+
+-- whether the member of a seat is not masked
+abbrev pub is_unmasked : Group → ℕ × Proc → Bool
+is_unmasked g seat = not (has g.masked seat.0)
+
+-- the live members, each with its index
+abbrev pub live_seats : Group → List (ℕ × Proc)
+live_seats g = filter (is_unmasked g) (enumerate_from 0 (members_of g))
+
+-- the live members in the order of the table
+abbrev pub live_members : Group → List Proc
+live_members g = map (λ seat. seat.1) (live_seats g)
+
+-- the elements of some processors
+abbrev pub elements_of : List Proc → List ℕ
+elements_of procs = map (λ proc. proc.ne) procs
+
+-- the elements of the live members
+abbrev pub live_elements : Group → List ℕ
+live_elements g = elements_of (live_members g)
+
+abbrev pub live_count : Group → ℕ
+live_count g = length (live_seats g)

@@ -1,0 +1,118 @@
+-- A table as a plain value, and when it is valid.
+use Rattle.std.specs.Prelude.{◌≡◌, ℕ, ◌^◌, Bool, true, not, ◌&&◌, ◌||◌, ◌==◌, nat_lt, nat_le, List, [], ◌∷◌, length, find, Option, Some, None, option_map, unwrap_or, if◌then◌else◌}
+use Rattle.std.specs.List.{list_any}
+use Rattle.std.specs.Option.{option_or}
+use Rattle.ftpp_base.specs.Lists.{is_in}
+use Rattle.ftpp_base.specs.declared.element.Proc.{Proc}
+use Rattle.config_table.specs.declared.groups.Group.{Group}
+use Rattle.config_table.specs.declared.errors.ConfigError.{ConfigError}
+use Rattle.config_table.specs.declared.errors.ConfigError.TheVariants.{Elements, GroupCount, Vid, VidOrder, Size, MemberRange, SameElement, SharedProcessor, Masked, Timeout, Expiry, Slots, Manager, ManagerLive}
+use Rattle.config_table.specs.Groups.{is_member, members_of, live_count}
+
+-- The number of elements, the group that may update the table, and the groups in order.
+pub record TableValue : Type 0 where
+  pub n : ℕ
+  pub manager : ℕ
+  pub groups : List Group
+
+-- whether a group has that number
+abbrev pub is_named : ℕ → Group → Bool
+is_named vid g = g.vid == vid
+
+-- the group with that number, if there is one
+abbrev pub group_named : TableValue → ℕ → Option Group
+group_named table vid = find (is_named vid) table.groups
+
+-- the group of a processor, if it is in one
+abbrev pub group_with : TableValue → Proc → Option Group
+group_with table proc = find (λ g. is_member g proc) table.groups
+
+-- how many packets a processor's output and input hold
+abbrev pub out_limit : TableValue → Proc → ℕ
+out_limit table proc = unwrap_or (option_map (λ g. g.outs) (group_with table proc)) 16
+
+abbrev pub in_limit : TableValue → Proc → ℕ
+in_limit table proc = unwrap_or (option_map (λ g. g.ins) (group_with table proc)) 32
+
+-- the error, where the test fails
+abbrev pub unless : Bool → ConfigError → Option ConfigError
+unless ok error = if ok then None else Some error
+
+-- the first error of several
+abbrev pub first_error : List (Option ConfigError) → Option ConfigError
+first_error [] = None
+first_error (e ∷ es) = option_or e (first_error es)
+
+abbrev pub is_within : ℕ → ℕ → ℕ → Bool
+is_within low high x = nat_le low x && nat_le x high
+
+-- whether the group's number is greater than that of the group before, the nearest first
+abbrev pub follows : List Group → Group → Bool
+follows [] g = true
+follows (before ∷ earlier) g = nat_lt before.vid g.vid
+
+-- the first element that an earlier member stands at, too
+abbrev pub repeated_element : List ℕ → List Proc → Option ℕ
+repeated_element seen [] = None
+repeated_element seen (p ∷ ps) = if is_in seen p.ne then Some p.ne else repeated_element (p.ne ∷ seen) ps
+
+-- the first member that the test does not pass
+abbrev pub first_failing : (Proc → Bool) → Group → Option Proc
+first_failing ok g = find (λ p. not (ok p)) (members_of g)
+
+-- the first clause that a group breaks, after the earlier groups
+unfoldable pub group_error : ℕ → List Group → Group → Option ConfigError
+group_error n earlier g = first_error (
+    unless (is_within 1 254 g.vid) (Vid g.vid)
+    ∷ unless (follows earlier g) (VidOrder g.vid)
+    ∷ unless (is_in (1 ∷ 3 ∷ 4 ∷ []) (length (members_of g))) (Size g.vid (length (members_of g)))
+    ∷ option_map (MemberRange g.vid) (first_failing (λ p. nat_lt p.ne n && nat_lt p.port 8) g)
+    ∷ option_map (SameElement g.vid) (repeated_element [] (members_of g))
+    ∷ option_map (SharedProcessor g.vid) (first_failing (λ p. not (list_any (λ h. is_member h p) earlier)) g)
+    ∷ unless (nat_lt g.masked.bits (2 ^ length (members_of g)) && nat_lt 0 (live_count g)) (Masked g.vid g.masked.bits)
+    ∷ unless (is_within 1 1000 g.ts) (Timeout g.vid g.ts)
+    ∷ unless (is_within 1 1000 g.tr) (Timeout g.vid g.tr)
+    ∷ unless (nat_le g.tx 1000) (Expiry g.vid g.tx)
+    ∷ unless (is_within 1 64 g.outs) (Slots g.vid g.outs)
+    ∷ unless (is_within 1 64 g.ins) (Slots g.vid g.ins)
+    ∷ [])
+
+-- the first clause that one of the groups breaks, the earlier groups nearest first
+abbrev pub groups_error : ℕ → List Group → List Group → Option ConfigError
+groups_error n earlier [] = None
+groups_error n earlier (g ∷ gs) = option_or (group_error n earlier g) (groups_error n (g ∷ earlier) gs)
+
+-- the manager is a group with at least three live members
+abbrev pub manager_error : ℕ → Option Group → Option ConfigError
+manager_error manager None = Some (Manager manager)
+manager_error manager (Some g) = unless (nat_le 3 (live_count g)) (ManagerLive manager (live_count g))
+
+-- the first clause that a table breaks, in their order
+unfoldable pub table_error : TableValue → Option ConfigError
+table_error table = first_error (
+    unless (table.n == 4 || table.n == 5) (Elements table.n)
+    ∷ unless (is_within 1 40 (length table.groups)) (GroupCount (length table.groups))
+    ∷ groups_error table.n [] table.groups
+    ∷ manager_error table.manager (group_named table table.manager)
+    ∷ [])
+
+-- a table that breaks no clause
+abbrev pub IsValid : TableValue → Type 0
+IsValid table = table_error table ≡ None
+
+-- the number of each clause
+abbrev pub error_code : ConfigError → ℕ
+error_code (Elements n) = 1
+error_code (GroupCount count) = 2
+error_code (Vid vid) = 3
+error_code (VidOrder vid) = 4
+error_code (Size vid size) = 5
+error_code (MemberRange vid proc) = 6
+error_code (SameElement vid ne) = 7
+error_code (SharedProcessor vid proc) = 8
+error_code (Masked vid masked) = 9
+error_code (Timeout vid value) = 10
+error_code (Manager manager) = 11
+error_code (ManagerLive manager live) = 12
+error_code (Expiry vid value) = 16
+error_code (Slots vid value) = 17

@@ -1,0 +1,12 @@
+//! Tables of groups, and the values that the crates above hand to each other.
+#![tactic(auto)]
+
+mod decisions;
+mod errors;
+mod groups;
+mod tables;
+
+pub use decisions::{Decision, GroupFlags, Kind, Service, StateRow, VotedFlags};
+pub use errors::ConfigError;
+pub use groups::Group;
+pub use tables::Table;
