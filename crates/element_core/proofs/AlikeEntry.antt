@@ -26,7 +26,7 @@ use Rattle.element_core.proofs.Accepted.{HasRow}
 use Rattle.config_table.proofs.ValidTable.{AreApart}
 use Rattle.element_core.proofs.FaultFree.{fault_free-live}
 use Rattle.element_core.proofs.NextQueues.{senders-named}
-use Rattle.bit_vote.proofs.Cells.{vote-cell, cells-map, cells-remove, cells-at}
+use Rattle.bit_vote.proofs.Widths.{vote-cell, cells-map, cells-remove, cells-at}
 use Rattle.bit_vote.proofs.Copies.{copy-fine, agreed-fine}
 
 -- ---- the member at an element

@@ -33,7 +33,7 @@ use Rattle.element_core.proofs.FaultFree.{fault_free-live}
 use Rattle.ftpp_base.proofs.Among.{all-append}
 use Rattle.element_core.proofs.Accepted.{output_of, acts-place, acts-output, accepted-rows, slice_get-left, slice_get-long, HasRow}
 use Rattle.element_core.proofs.Calm.{shown-calm, state-calm, state_at-cycle, all_posts, posts_before, posts_before-suc, posts_before-all, posts_before-dated, posts_before-early}
-use Rattle.bit_vote.proofs.Cells.{cells-from}
+use Rattle.bit_vote.proofs.Widths.{cells-from}
 use Rattle.element_core.proofs.Heads.{entry-own}
 use Rattle.element_core.proofs.NextTable.{with_update-leaves, Leaves}
 use Rattle.element_core.proofs.NextQueues.{HasRows}
