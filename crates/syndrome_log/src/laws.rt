@@ -1,0 +1,13 @@
+//! What many pushes leave: each function here stands for a law, which its clause states, and does nothing.
+
+ghost use Rattle.syndrome_log.specs.Log.{HoldsLastPushed, KeepsLastOfBoth};
+
+/// However many entries are pushed into an empty log one by one, it holds the last 1,024 of them.
+pub fn holds_last_pushed()
+    ensures { HoldsLastPushed }
+{}
+
+/// What a log drops makes no difference to what it holds later.
+pub fn keeps_last_of_both()
+    ensures { KeepsLastOfBoth }
+{}
