@@ -5,11 +5,10 @@ mod element;
 mod gate;
 mod sets;
 
-pub use element::{Ne, Proc, Round, Slot, MOST_ELEMENTS};
+use arrayvec::ArrayVec;
+pub use element::{MOST_ELEMENTS, Ne, Proc, Round, Slot};
 pub use gate::{Gate, OpenGate};
 pub use sets::{Set8, VidSet};
-
-use arrayvec::ArrayVec;
 
 /// A list of at most `N` items that takes no memory of its own.
 pub type Row<T, const N: usize> = ArrayVec<T, N>;
