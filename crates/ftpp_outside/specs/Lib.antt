@@ -1,0 +1,5 @@
+-- What the clauses of this crate cite.
+pub mod MemSink
+pub mod MemSource
+pub mod Steady
+pub mod Told

@@ -1,0 +1,94 @@
+//! The standard streams. They tell no content.
+ghost use Rattle.std.specs.Prelude.{◌≡◌, ◌<◌, ◌≤◌, ◌^◌, None};
+ghost use Rattle.ftpp_outside.specs.Told.{Rose};
+
+use crate::sink::{Sink, WriteFault};
+use crate::source::{ReadFault, Source};
+use std::io::{Read, Stdin, Stdout, Write};
+
+/// Standard input.
+#[derive(Drop)]
+pub struct StdSource {
+    stream: Stdin,
+    faults: u64,
+    taken: u64,
+    ghost faults_fit: { faults < 2 ^ 64 },
+    ghost taken_fits: { taken < 2 ^ 64 },
+}
+
+impl StdSource {
+    /// The source of a stream.
+    pub fn new(stream: Stdin) -> Self {
+        StdSource {
+            stream,
+            faults: 0,
+            taken: 0,
+        }
+    }
+}
+
+impl Source for StdSource {
+    ghost left = { λ _. None };
+
+    ghost taken = { λ s. s.taken };
+
+    ghost faults = { λ s. s.faults };
+
+    fn read(&mut self, into: &mut [u8]) -> Result<usize, ReadFault> {
+        match self.stream.read(into) {
+            Ok(n) => {
+                self.taken = self.taken.saturating_add(n as u64);
+                Ok(n)
+            }
+            Err(_) => {
+                self.faults = self.faults.saturating_add(1);
+                Err(ReadFault)
+            }
+        }
+    }
+}
+
+/// Standard output.
+#[derive(Drop)]
+pub struct StdSink {
+    stream: Stdout,
+    faults: u64,
+    ghost faults_fit: { faults < 2 ^ 64 },
+}
+
+impl StdSink {
+    /// The sink of a stream.
+    pub fn new(stream: Stdout) -> Self {
+        StdSink { stream, faults: 0 }
+    }
+
+    // Counts a fault.
+    fn count(&mut self)
+        ensures rose { Rose self.old.faults self.new.faults }
+        ensures faults { self.old.faults ≤ self.new.faults }
+    {
+        self.faults = self.faults.saturating_add(1);
+    }
+}
+
+impl Sink for StdSink {
+    ghost written = { λ _. None };
+
+    ghost faults = { λ s. s.faults };
+
+    fn write(&mut self, piece: &[u8]) -> Result<usize, WriteFault> {
+        let Ok(n) = self.stream.write(piece) else {
+            self.count();
+            return Err(WriteFault);
+        };
+        if n == 0 && !piece.is_empty() {
+            self.count();
+            return Err(WriteFault);
+        }
+        if self.stream.flush().is_err() {
+            self.count();
+            return Err(WriteFault);
+        }
+        Ok(n)
+    }
+}
