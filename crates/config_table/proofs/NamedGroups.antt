@@ -10,6 +10,7 @@ use Rattle.ftpp_base.proofs.Among.{each, all-both, find-only}
 use Rattle.config_table.specs.declared.groups.Group.{Group}
 use Rattle.config_table.specs.Groups.{members_of, live_members, elements_of, is_member}
 use Rattle.config_table.specs.Table.{TableValue, IsValid, group_named}
+pub use Rattle.config_table.specs.Bounds.{InRange}
 use Rattle.config_table.proofs.ValidTable.{AreGroupsValid, groups-valid, ascending, named-itself, named-there, members-range, AreApart, members-apart, is_member-contains, members-elsewhere}
 use Rattle.config_table.proofs.LiveMembers.{live-apart, all-live}
 
@@ -33,11 +34,6 @@ pub AreApart-found : (table : TableValue) (vid : ℕ) → IsValid table → AreA
 AreApart-found table vid valid = apart_by table vid (group_named table vid) valid refl
 
 -- ---- members in range
-
--- A processor that is there among n elements.
-pub record InRange (n : ℕ) (p : Proc) : Type 0 where
-  pub ne : p.ne < n
-  pub port : p.port < 8
 
 -- the live members of a group that is named are there
 pub InRange-named : (table : TableValue) (vid : ℕ) (g : Group) → IsValid table → group_named table vid ≡ Some g → AllByRecursion (InRange table.n) (live_members g)

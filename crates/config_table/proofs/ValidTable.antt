@@ -1,6 +1,6 @@
 -- What a valid table says of its groups: their members are in range, each at an element of its own and in no other group, and each number names one group.
-use Rattle.std.proofs.Common.{◌≡◌, ℕ, ◌<◌, ◌≤◌, ◌^◌, Bool, true, false, cond, not, List, [], ◌∷◌, ◌++◌, length, refl, ap, arith, sym, ◌∙◌, subst, find, ◌⊎◌, inl, inr, Contains, Option, Some, None, option_map}
-use Rattle.std.specs.Prelude.{◌&&◌, ◌||◌, ◌==◌, nat_lt, nat_le}
+use Rattle.std.proofs.Common.{◌≡◌, ℕ, ◌<◌, ◌≤◌, Bool, true, false, cond, not, List, [], ◌∷◌, length, refl, ap, arith, sym, ◌∙◌, subst, find, ◌⊎◌, inl, inr, Contains, Option, Some, None, option_map}
+use Rattle.std.specs.Prelude.{◌||◌, ◌==◌, nat_lt}
 use Rattle.std.specs.List.{AllByRecursion, list_any}
 use Rattle.std.specs.Option.{option_or}
 use Rattle.std.proofs.lemmas.Bool.{eqb-true, eqb-false, eq-eqb, ne_eqb, ltb-true, and_parts, or_parts, or_cases, or_left, or_right, not-true, not-false, cond-true, cond-false}
@@ -8,36 +8,36 @@ use Rattle.ftpp_base.specs.Lists.{is_in}
 use Rattle.ftpp_base.specs.declared.element.Proc.{Proc}
 use Rattle.config_table.specs.declared.groups.Group.{Group}
 use Rattle.config_table.specs.declared.errors.ConfigError.{ConfigError}
-use Rattle.config_table.specs.declared.errors.ConfigError.TheVariants.{Elements, GroupCount, Vid, VidOrder, Size, MemberRange, SameElement, SharedProcessor, Masked, Timeout, Expiry, Slots}
-use Rattle.config_table.specs.Groups.{same_proc, is_member, members_of, live_count}
-use Rattle.config_table.specs.Table.{TableValue, is_named, group_named, unless, first_error, follows, repeated_element, first_failing, group_error, groups_error, table_error, manager_error, is_within, IsValid}
+use Rattle.config_table.specs.declared.errors.ConfigError.TheVariants.{Elements, VidOrder, Size, MemberRange, SameElement, SharedProcessor}
+use Rattle.config_table.specs.Groups.{same_proc, is_member, members_of}
+use Rattle.config_table.specs.Table.{TableValue, is_named, group_named, unless, first_error, follows, repeated_element, first_failing, is_in_range, is_free, group_errors, group_error, groups_error, table_errors, table_error, IsValid}
 use Rattle.ftpp_base.proofs.Among.{here, there, each, one_of, weaker, find-passes}
 use Rattle.config_table.proofs.Procs.{same_proc-true, same_proc-refl}
 
 -- ---- a list of tests that finds no error
 
 -- where two together have no error, the first has none
-none_first : (a b : Option ConfigError) → option_or a b ≡ None → a ≡ None
+pub none_first : (a b : Option ConfigError) → option_or a b ≡ None → a ≡ None
 none_first None b e = refl
 none_first (Some x) b e = cc
 
 -- and the other has none
-none_rest : (a b : Option ConfigError) → option_or a b ≡ None → b ≡ None
+pub none_rest : (a b : Option ConfigError) → option_or a b ≡ None → b ≡ None
 none_rest None b e = e
 none_rest (Some x) b e = cc
 
 -- where there is no first error, there is none
-no_error : (es : List (Option ConfigError)) → first_error es ≡ None → AllByRecursion (λ e. e ≡ None) es
+pub no_error : (es : List (Option ConfigError)) → first_error es ≡ None → AllByRecursion (λ e. e ≡ None) es
 no_error [] e = tt
 no_error (x ∷ xs) e = (none_first x (first_error xs) e, no_error xs (none_rest x (first_error xs) e))
 
 -- a test without an error passed
-passed : (ok : Bool) (error : ConfigError) → unless ok error ≡ None → ok ≡ true
+pub passed : (ok : Bool) (error : ConfigError) → unless ok error ≡ None → ok ≡ true
 passed true error e = refl
 passed false error e = cc
 
 -- what is not there after a map was not there before
-unmapped : {A : Type 0} (f : A → ConfigError) (o : Option A) → option_map f o ≡ None → o ≡ None
+pub unmapped : {A : Type 0} (f : A → ConfigError) (o : Option A) → option_map f o ≡ None → o ≡ None
 unmapped f None e = refl
 unmapped f (Some x) e = cc
 
@@ -52,51 +52,21 @@ find-none p [] e = tt
 find-none p (x ∷ xs) e = none_by p (p x) x xs refl e (find-none p xs)
 
 -- where no member fails the test, each passes it
-not_failing : (ok : Proc → Bool) (g : Group) → first_failing ok g ≡ None → AllByRecursion (λ p. ok p ≡ true) (members_of g)
+pub not_failing : (ok : Proc → Bool) (g : Group) → first_failing ok g ≡ None → AllByRecursion (λ p. ok p ≡ true) (members_of g)
 not_failing ok g e = weaker (λ p. not (ok p) ≡ false) (λ p. ok p ≡ true) (λ p h. not-false (ok p) h) (members_of g) (find-none (λ p. not (ok p)) (members_of g) e)
 
 -- ---- one group after the earlier ones
-
--- whether a processor is within n elements of eight ports
-abbrev in_range : ℕ → Proc → Bool
-in_range n p = nat_lt p.ne n && nat_lt p.port 8
-
--- whether a processor is in none of some groups
-abbrev is_free : List Group → Proc → Bool
-is_free earlier p = not (list_any (λ h. is_member h p) earlier)
 
 -- What a group of a valid table keeps, after the earlier groups, the nearest first.
 pub record IsGroupValid (n : ℕ) (earlier : List Group) (g : Group) : Type 0 where
   pub ascends : follows earlier g ≡ true
   pub size : length (members_of g) ≤ 4
-  pub in_range : AllByRecursion (λ p. in_range n p ≡ true) (members_of g)
+  pub in_range : AllByRecursion (λ p. is_in_range n p ≡ true) (members_of g)
   pub apart : repeated_element [] (members_of g) ≡ None
   pub free : AllByRecursion (λ p. is_free earlier p ≡ true) (members_of g)
 
--- the first five of the clauses of a group
-abbrev first_tests : ℕ → List Group → Group → List (Option ConfigError)
-first_tests n earlier g =
-    unless (is_within 1 254 g.vid) (Vid g.vid)
-    ∷ unless (follows earlier g) (VidOrder g.vid)
-    ∷ unless (is_in (1 ∷ 3 ∷ 4 ∷ []) (length (members_of g))) (Size g.vid (length (members_of g)))
-    ∷ option_map (MemberRange g.vid) (first_failing (in_range n) g)
-    ∷ option_map (SameElement g.vid) (repeated_element [] (members_of g))
-    ∷ option_map (SharedProcessor g.vid) (first_failing (is_free earlier) g)
-    ∷ []
-
--- the others
-abbrev last_tests : Group → List (Option ConfigError)
-last_tests g =
-    unless (nat_lt g.masked.bits (2 ^ length (members_of g)) && nat_lt 0 (live_count g)) (Masked g.vid g.masked.bits)
-    ∷ unless (is_within 1 1000 g.ts) (Timeout g.vid g.ts)
-    ∷ unless (is_within 1 1000 g.tr) (Timeout g.vid g.tr)
-    ∷ unless (nat_le g.tx 1000) (Expiry g.vid g.tx)
-    ∷ unless (is_within 1 64 g.outs) (Slots g.vid g.outs)
-    ∷ unless (is_within 1 64 g.ins) (Slots g.vid g.ins)
-    ∷ []
-
 -- a size that a group may have is at most 4
-few : (n : ℕ) → is_in (1 ∷ 3 ∷ 4 ∷ []) n ≡ true → n ≤ 4
+pub few : (n : ℕ) → is_in (1 ∷ 3 ∷ 4 ∷ []) n ≡ true → n ≤ 4
 few n e = elim (or_cases (1 == n) _ e) [
   | inl a ↦ let l = eqb-true 1 n a in omega arith
   | inr r ↦ elim (or_cases (3 == n) _ r) [
@@ -112,11 +82,11 @@ few n e = elim (or_cases (1 == n) _ e) [
 group_valid : (n : ℕ) (earlier : List Group) (g : Group) → group_error n earlier g ≡ None → IsGroupValid n earlier g
 unfolding group_error
 group_valid n earlier g e =
-    let h = no_error (first_tests n earlier g ++ last_tests g) e in
+    let h = no_error (group_errors n earlier g) e in
     record {
       ascends = passed (follows earlier g) (VidOrder g.vid) h.1.0;
       size = few (length (members_of g)) (passed (is_in (1 ∷ 3 ∷ 4 ∷ []) (length (members_of g))) (Size g.vid (length (members_of g))) h.1.1.0);
-      in_range = not_failing (in_range n) g (unmapped (MemberRange g.vid) (first_failing (in_range n) g) h.1.1.1.0);
+      in_range = not_failing (is_in_range n) g (unmapped (MemberRange g.vid) (first_failing (is_in_range n) g) h.1.1.1.0);
       apart = unmapped (SameElement g.vid) (repeated_element [] (members_of g)) h.1.1.1.1.0;
       free = not_failing (is_free earlier) g (unmapped (SharedProcessor g.vid) (first_failing (is_free earlier) g) h.1.1.1.1.1.0);
     }
@@ -134,19 +104,10 @@ groups_valid n earlier (g ∷ gs) e = (
   groups_valid n (g ∷ earlier) gs (none_rest (group_error n earlier g) (groups_error n (g ∷ earlier) gs) e),
 )
 
--- the clauses of a table
-abbrev table_tests : TableValue → List (Option ConfigError)
-table_tests table =
-    unless (table.n == 4 || table.n == 5) (Elements table.n)
-    ∷ unless (is_within 1 40 (length table.groups)) (GroupCount (length table.groups))
-    ∷ groups_error table.n [] table.groups
-    ∷ manager_error table.manager (group_named table table.manager)
-    ∷ []
-
 -- a valid table passes all of them
-valid_tests : (table : TableValue) → IsValid table → AllByRecursion (λ e. e ≡ None) (table_tests table)
+pub valid_tests : (table : TableValue) → IsValid table → AllByRecursion (λ e. e ≡ None) (table_errors table)
 unfolding table_error
-valid_tests table e = no_error (table_tests table) e
+valid_tests table e = no_error (table_errors table) e
 
 -- the groups of a valid table
 pub groups-valid : (table : TableValue) → IsValid table → AreGroupsValid table.n [] table.groups
@@ -222,7 +183,7 @@ members-few table valid g c = (valid_at table valid g c).1.size
 -- its members are in range
 pub members-range : (table : TableValue) → IsValid table → (g : Group) → Contains table.groups g → (p : Proc) → Contains (members_of g) p → (p.ne < table.n) × (p.port < 8)
 members-range table valid g c p m =
-    let e = one_of (λ q. in_range table.n q ≡ true) (members_of g) p (valid_at table valid g c).1.in_range m in
+    let e = one_of (λ q. is_in_range table.n q ≡ true) (members_of g) p (valid_at table valid g c).1.in_range m in
     let h = and_parts (nat_lt p.ne table.n) (nat_lt p.port 8) e in
     (ltb-true p.ne table.n h.0, ltb-true p.port 8 h.1)
 

@@ -1,5 +1,5 @@
 -- A group and its live members.
-use Rattle.std.specs.Prelude.{ℕ, Bool, not, ◌&&◌, ◌==◌, nat_lt, List, map, filter, length}
+use Rattle.std.specs.Prelude.{ℕ, Bool, not, ◌&&◌, ◌==◌, nat_lt, ◌+◌, List, [], ◌∷◌, Option, Some, None, if◌then◌else◌, map, filter, length}
 use Rattle.std.specs.List.{list_any, enumerate_from}
 use Rattle.ftpp_base.specs.Sets.{has}
 use Rattle.ftpp_base.specs.declared.element.Proc.{Proc}
@@ -42,3 +42,8 @@ live_elements g = elements_of (live_members g)
 
 abbrev pub live_count : Group → ℕ
 live_count g = length (live_seats g)
+
+-- the index of a processor among some members, counted from a number
+abbrev pub index_from : Proc → ℕ → List Proc → Option ℕ
+index_from proc i [] = None
+index_from proc i (p ∷ ps) = if same_proc proc p then Some i else index_from proc (i + 1) ps

@@ -7,7 +7,7 @@ use Rattle.ftpp_base.specs.declared.element.Proc.{Proc}
 use Rattle.config_table.specs.declared.groups.Group.{Group}
 use Rattle.config_table.specs.declared.errors.ConfigError.{ConfigError}
 use Rattle.config_table.specs.declared.errors.ConfigError.TheVariants.{Elements, GroupCount, Vid, VidOrder, Size, MemberRange, SameElement, SharedProcessor, Masked, Timeout, Expiry, Slots, Manager, ManagerLive}
-use Rattle.config_table.specs.Groups.{is_member, members_of, live_count}
+use Rattle.config_table.specs.Groups.{index_from, is_member, members_of, live_count}
 
 -- The number of elements, the group that may update the table, and the groups in order.
 pub record TableValue : Type 0 where
@@ -26,6 +26,15 @@ group_named table vid = find (is_named vid) table.groups
 -- the group of a processor, if it is in one
 abbrev pub group_with : TableValue → Proc → Option Group
 group_with table proc = find (λ g. is_member g proc) table.groups
+
+-- the number of a group and the index of a processor in it, if it is a member
+abbrev pub seat_in : Group → Proc → Option (ℕ × ℕ)
+seat_in g proc = option_map (λ i. (g.vid, i)) (index_from proc 0 (members_of g))
+
+-- the same of the first group that has the processor
+abbrev pub seat_with : List Group → Proc → Option (ℕ × ℕ)
+seat_with [] proc = None
+seat_with (g ∷ gs) proc = option_or (seat_in g proc) (seat_with gs proc)
 
 -- how many packets a processor's output and input hold
 abbrev pub out_limit : TableValue → Proc → ℕ
@@ -60,41 +69,109 @@ repeated_element seen (p ∷ ps) = if is_in seen p.ne then Some p.ne else repeat
 abbrev pub first_failing : (Proc → Bool) → Group → Option Proc
 first_failing ok g = find (λ p. not (ok p)) (members_of g)
 
+-- whether a member stands at an element below n and at one of eight ports
+abbrev pub is_in_range : ℕ → Proc → Bool
+is_in_range n p = nat_lt p.ne n && nat_lt p.port 8
+
+-- whether a processor is in none of the earlier groups
+abbrev pub is_free : List Group → Proc → Bool
+is_free earlier p = not (list_any (λ h. is_member h p) earlier)
+
+-- ---- the clauses of a group
+
+-- the number is not 0 and not 255
+abbrev pub vid_error : Group → Option ConfigError
+vid_error g = unless (is_within 1 254 g.vid) (Vid g.vid)
+
+-- it is greater than that of the group before
+abbrev pub order_error : List Group → Group → Option ConfigError
+order_error earlier g = unless (follows earlier g) (VidOrder g.vid)
+
+-- there are one, three or four members
+abbrev pub size_error : Group → Option ConfigError
+size_error g = unless (is_in (1 ∷ 3 ∷ 4 ∷ []) (length (members_of g))) (Size g.vid (length (members_of g)))
+
+-- each member is there among n elements
+abbrev pub range_error : ℕ → Group → Option ConfigError
+range_error n g = option_map (MemberRange g.vid) (first_failing (is_in_range n) g)
+
+-- each stands at an element of its own
+abbrev pub element_error : Group → Option ConfigError
+element_error g = option_map (SameElement g.vid) (repeated_element [] (members_of g))
+
+-- each is in this group only
+abbrev pub shared_error : List Group → Group → Option ConfigError
+shared_error earlier g = option_map (SharedProcessor g.vid) (first_failing (is_free earlier) g)
+
+-- only members are masked, and not all of them
+abbrev pub masked_error : Group → Option ConfigError
+masked_error g = unless (nat_lt g.masked.bits (2 ^ length (members_of g)) && nat_lt 0 (live_count g)) (Masked g.vid g.masked.bits)
+
+-- a timeout is 1 to 1,000
+abbrev pub timeout_error : ℕ → ℕ → Option ConfigError
+timeout_error vid value = unless (is_within 1 1000 value) (Timeout vid value)
+
+-- the expiry is at most 1,000
+abbrev pub expiry_error : Group → Option ConfigError
+expiry_error g = unless (nat_le g.tx 1000) (Expiry g.vid g.tx)
+
+-- a limit of a port is 1 to 64
+abbrev pub slots_error : ℕ → ℕ → Option ConfigError
+slots_error vid value = unless (is_within 1 64 value) (Slots vid value)
+
+-- what each clause says of a group, after the earlier groups, in the order of the clauses
+abbrev pub group_errors : ℕ → List Group → Group → List (Option ConfigError)
+group_errors n earlier g =
+    vid_error g
+    ∷ order_error earlier g
+    ∷ size_error g
+    ∷ range_error n g
+    ∷ element_error g
+    ∷ shared_error earlier g
+    ∷ masked_error g
+    ∷ timeout_error g.vid g.ts
+    ∷ timeout_error g.vid g.tr
+    ∷ expiry_error g
+    ∷ slots_error g.vid g.outs
+    ∷ slots_error g.vid g.ins
+    ∷ []
+
 -- the first clause that a group breaks, after the earlier groups
 unfoldable pub group_error : ℕ → List Group → Group → Option ConfigError
-group_error n earlier g = first_error (
-    unless (is_within 1 254 g.vid) (Vid g.vid)
-    ∷ unless (follows earlier g) (VidOrder g.vid)
-    ∷ unless (is_in (1 ∷ 3 ∷ 4 ∷ []) (length (members_of g))) (Size g.vid (length (members_of g)))
-    ∷ option_map (MemberRange g.vid) (first_failing (λ p. nat_lt p.ne n && nat_lt p.port 8) g)
-    ∷ option_map (SameElement g.vid) (repeated_element [] (members_of g))
-    ∷ option_map (SharedProcessor g.vid) (first_failing (λ p. not (list_any (λ h. is_member h p) earlier)) g)
-    ∷ unless (nat_lt g.masked.bits (2 ^ length (members_of g)) && nat_lt 0 (live_count g)) (Masked g.vid g.masked.bits)
-    ∷ unless (is_within 1 1000 g.ts) (Timeout g.vid g.ts)
-    ∷ unless (is_within 1 1000 g.tr) (Timeout g.vid g.tr)
-    ∷ unless (nat_le g.tx 1000) (Expiry g.vid g.tx)
-    ∷ unless (is_within 1 64 g.outs) (Slots g.vid g.outs)
-    ∷ unless (is_within 1 64 g.ins) (Slots g.vid g.ins)
-    ∷ [])
+group_error n earlier g = first_error (group_errors n earlier g)
 
 -- the first clause that one of the groups breaks, the earlier groups nearest first
 abbrev pub groups_error : ℕ → List Group → List Group → Option ConfigError
 groups_error n earlier [] = None
 groups_error n earlier (g ∷ gs) = option_or (group_error n earlier g) (groups_error n (g ∷ earlier) gs)
 
+-- ---- the clauses of a table
+
+-- there are four or five elements
+abbrev pub elements_error : ℕ → Option ConfigError
+elements_error n = unless (n == 4 || n == 5) (Elements n)
+
+-- there are 1 to 40 groups
+abbrev pub count_error : List Group → Option ConfigError
+count_error groups = unless (is_within 1 40 (length groups)) (GroupCount (length groups))
+
 -- the manager is a group with at least three live members
 abbrev pub manager_error : ℕ → Option Group → Option ConfigError
 manager_error manager None = Some (Manager manager)
 manager_error manager (Some g) = unless (nat_le 3 (live_count g)) (ManagerLive manager (live_count g))
 
--- the first clause that a table breaks, in their order
-unfoldable pub table_error : TableValue → Option ConfigError
-table_error table = first_error (
-    unless (table.n == 4 || table.n == 5) (Elements table.n)
-    ∷ unless (is_within 1 40 (length table.groups)) (GroupCount (length table.groups))
+-- what each clause says of a table, in the order of the clauses
+abbrev pub table_errors : TableValue → List (Option ConfigError)
+table_errors table =
+    elements_error table.n
+    ∷ count_error table.groups
     ∷ groups_error table.n [] table.groups
     ∷ manager_error table.manager (group_named table table.manager)
-    ∷ [])
+    ∷ []
+
+-- the first clause that a table breaks
+unfoldable pub table_error : TableValue → Option ConfigError
+table_error table = first_error (table_errors table)
 
 -- a table that breaks no clause
 abbrev pub IsValid : TableValue → Type 0

@@ -15,6 +15,21 @@ pub struct GroupFlags {
     pub most_space: bool,
 }
 
+// an entry of a `Row` needs a value to begin with
+impl Default for GroupFlags {
+    fn default() -> GroupFlags {
+        GroupFlags {
+            vid: 0,
+            desc: None,
+            unanimous: false,
+            live: Set8::default(),
+            holds: Set8::default(),
+            space: Set8::default(),
+            most_space: false,
+        }
+    }
+}
+
 /// What each group's members agree on, one row for each group in the order of the table.
 pub type VotedFlags = Row<GroupFlags, 40>;
 
@@ -56,4 +71,15 @@ pub struct StateRow {
     pub vid: u8,
     pub request: Option<(Descriptor, u32, u32)>,
     pub lags: [u32; 4],
+}
+
+// an entry of a `Row` needs a value to begin with
+impl Default for StateRow {
+    fn default() -> StateRow {
+        StateRow {
+            vid: 0,
+            request: None,
+            lags: [0; 4],
+        }
+    }
 }

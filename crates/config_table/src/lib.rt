@@ -1,9 +1,11 @@
 //! Tables of groups, and the values that the crates above hand to each other.
 #![tactic(auto)]
 
+mod checks;
 mod decisions;
 mod errors;
 mod groups;
+mod lookups;
 mod tables;
 
 pub use decisions::{Decision, GroupFlags, Kind, Service, StateRow, VotedFlags};
