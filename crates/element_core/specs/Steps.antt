@@ -1,0 +1,45 @@
+-- What holds of one element step by step, whatever frames come.
+use Rattle.std.specs.Prelude.{◌≡◌, ℕ, ◌<◌, ◌≤◌, List, length}
+use Rattle.ftpp_base.specs.Lists.{cell_at}
+use Rattle.ftpp_base.specs.declared.element.Round.{Round}
+use Rattle.ftpp_base.specs.declared.element.Round.TheVariants.{A1, A2, B1, B2}
+use Rattle.run.specs.Element.{Kept, own_packet}
+use Rattle.run.specs.Noted.{own_pattern}
+use Rattle.run.specs.Together.{Carried, heard_of}
+use Rattle.element_core.specs.declared.Due.TheVariants.{Absorb}
+use Rattle.element_core.specs.ElementValue.{ElementValue, begins_with, after_emit, after_absorb, cells_taken, ended_with, rounds_heard, decision_now}
+
+-- ---- its own places
+
+-- Once a first round was heard, its own cell stands in its own place, and each list has a cell for each element.
+pub record HasOwnCells (e : ElementValue) : Type 0 where
+  pub patterns : 1 ≤ rounds_heard e.due → cell_at e.heard.patterns e.kept.me ≡ own_pattern e.kept
+  pub packets : 3 ≤ rounds_heard e.due → cell_at e.heard.packets e.kept.me ≡ own_packet e.kept (decision_now e)
+  pub pattern_count : length e.heard.patterns ≡ e.kept.table.n
+  pub packet_count : length e.heard.packets ≡ e.kept.table.n
+
+-- So it is when an element begins, and after each step, whatever frames come.
+abbrev pub OwnCellsBegin : Type 0
+OwnCellsBegin = (kept : Kept) → HasOwnCells (begins_with kept)
+
+abbrev pub OwnCellsStay : Type 0
+OwnCellsStay = (e : ElementValue) (round : Round) (frames : ℕ → List ℕ)
+    → e.due ≡ Absorb round → e.kept.me < e.kept.table.n → HasOwnCells e → HasOwnCells (after_absorb round frames e)
+
+-- ---- a cycle of steps
+
+-- what it is after the eight steps of a cycle
+abbrev pub after_cycle : (Round → ℕ → List ℕ) → ElementValue → ElementValue
+after_cycle frames e =
+    after_absorb B2 (frames B2) (after_emit B2 (after_absorb B1 (frames B1) (after_emit B1
+    (after_absorb A2 (frames A2) (after_emit A2 (after_absorb A1 (frames A1) (after_emit A1 e)))))))
+
+-- What is carried to an element is what it takes of the frames that come.
+abbrev pub IsTaken : Kept → (Round → ℕ → List ℕ) → Carried → Type 0
+IsTaken kept frames carried = (round : Round) (sender : ℕ) → carried round sender kept.me ≡ cells_taken kept (heard_of carried kept.table.n kept.me) round (frames round) sender
+
+-- The steps of a cycle make of an element what it makes of all that it hears in the cycle.
+abbrev pub CycleOfSteps : Type 0
+CycleOfSteps = (e : ElementValue) (frames : Round → ℕ → List ℕ) (carried : Carried)
+    → IsTaken e.kept frames carried
+    → after_cycle frames e ≡ ended_with e (heard_of carried e.kept.table.n e.kept.me)

@@ -1,0 +1,104 @@
+-- An element hears one round after another; and what it makes of a cycle, part by part.
+use Rattle.std.proofs.Common.{◌≡◌, ◌+◌, refl}
+use Rattle.std.specs.Prelude.{Option, Some, None}
+use Rattle.ftpp_base.specs.declared.element.Round.TheVariants.{A1, A2, B1, B2}
+use Rattle.flag_vote.specs.Flags.{voted_flags}
+use Rattle.scoreboard.specs.Choice.{scoreboard_after}
+use Rattle.table_update.specs.declared.Update.{Update}
+use Rattle.table_update.specs.declared.Applied.{Applied}
+use Rattle.table_update.specs.declared.Applied.TheVariants.{Done, Refused, Absent}
+use Rattle.table_update.specs.Updates.{applied}
+use Rattle.run.specs.Cycle.{update_in, update_outcome}
+use Rattle.run.specs.Element.{Kept, Heard, Made, echoes_of, settled, own_packet, own_entry, own_service, own_delivery, own_handed, own_update, kept_by, kept_with, made, kept_after}
+use Rattle.run.specs.Noted.{own_pattern, decided_by}
+use Rattle.run.specs.Phases.{LooksBack, HeardByRounds}
+use Rattle.run.proofs.Sound.{size-table_after}
+
+-- The frame of a round does not look at what is heard in that round or later.
+pub looks_back : LooksBack
+looks_back kept heard n frames A1 A1 e = refl
+looks_back kept heard n frames A1 A2 e = refl
+looks_back kept heard n frames A1 B1 e = refl
+looks_back kept heard n frames A1 B2 e = refl
+looks_back kept heard n frames A2 A1 e = cc
+looks_back kept heard n frames A2 A2 e = refl
+looks_back kept heard n frames A2 B1 e = refl
+looks_back kept heard n frames A2 B2 e = refl
+looks_back kept heard n frames B1 A1 e = cc
+looks_back kept heard n frames B1 A2 e = cc
+looks_back kept heard n frames B1 B1 e = refl
+looks_back kept heard n frames B1 B2 e = refl
+looks_back kept heard n frames B2 A1 e = cc
+looks_back kept heard n frames B2 A2 e = cc
+looks_back kept heard n frames B2 B1 e = cc
+looks_back kept heard n frames B2 B2 e = refl
+
+-- The four rounds are what it hears of the cycle.
+pub heard_by_rounds : HeardByRounds
+heard_by_rounds heard n carried me = refl
+
+-- ---- what it makes, part by part
+
+-- its echoes of the patterns, and the pattern
+pub made-patterns : (kept : Kept) (heard : Heard) → (made kept heard).patterns ≡ echoes_of kept.me (own_pattern kept) heard.patterns heard.relayed_patterns
+unfolding made
+made-patterns kept heard = refl
+
+-- the pattern
+pub made-pattern : (kept : Kept) (heard : Heard) → (made kept heard).pattern ≡ settled kept.table.n (made kept heard).patterns
+unfolding made
+made-pattern kept heard = refl
+
+-- the decision
+pub made-decision : (kept : Kept) (heard : Heard) → (made kept heard).decision ≡ decided_by kept heard.patterns heard.relayed_patterns
+unfolding made
+made-decision kept heard = refl
+
+-- its echoes of the packets, and the entry
+pub made-packets : (kept : Kept) (heard : Heard) → (made kept heard).packets ≡ echoes_of kept.me (own_packet kept (made kept heard).decision) heard.packets heard.relayed_packets
+unfolding made
+made-packets kept heard = refl
+
+-- the entry
+pub made-entry : (kept : Kept) (heard : Heard) → (made kept heard).entry ≡ own_entry kept.table (made kept heard).decision (made kept heard).packets
+unfolding made
+made-entry kept heard = refl
+
+-- the delivery, and what became of an update
+pub made-handed : (kept : Kept) (heard : Heard) → (made kept heard).handed ≡ own_handed kept (made kept heard).decision (made kept heard).entry (own_service kept (made kept heard).decision)
+unfolding made
+made-handed kept heard = refl
+
+-- what became of an update
+pub made-update : (kept : Kept) (heard : Heard) → (made kept heard).update ≡ update_outcome kept.table (own_update kept.table (made kept heard).decision (made kept heard).packets)
+unfolding made
+made-update kept heard = refl
+
+-- what it keeps
+pub kept_after-parts : (kept : Kept) (m : Made) → kept_after kept m ≡ kept_with (update_in (own_update kept.table m.decision m.packets)) (record {
+  me = kept.me;
+  cycle = kept.cycle + 1;
+  table = kept.table;
+  scoreboard = scoreboard_after kept.table kept.cycle (voted_flags kept.table m.pattern) kept.scoreboard;
+  ports = own_delivery kept m.decision m.entry (own_service kept m.decision);
+})
+unfolding kept_after
+kept_after-parts kept m = refl
+
+-- ---- among as many elements
+
+-- after an update, by what became of it
+size_by : (a : Applied) (update : Update) (kept : Kept) → (kept_by a update kept).table.n ≡ kept.table.n
+size_by (Done ports) update kept = size-table_after kept.table update
+size_by (Refused error) update kept = refl
+size_by Absent update kept = refl
+
+-- after an update, if there is one
+size_with : (update : Option Update) (kept : Kept) → (kept_with update kept).table.n ≡ kept.table.n
+size_with None kept = refl
+size_with (Some update) kept = size_by (applied kept.table update) update kept
+
+-- it stays one of as many elements
+pub kept_size : (kept : Kept) (m : Made) → (kept_after kept m).table.n ≡ kept.table.n
+unfolding kept_after
+kept_size kept m = size_with (update_in (own_update kept.table m.decision m.packets)) _

@@ -1,0 +1,56 @@
+-- One element in the midst of a cycle: it hears one round after another, and its frame of a round looks only at earlier ones.
+use Rattle.std.specs.Prelude.{◌≡◌, ℕ, Bool, true, false, List, None}
+use Rattle.ftpp_base.specs.Lists.{each_below, cell_at}
+use Rattle.ftpp_base.specs.declared.element.Round.{Round}
+use Rattle.ftpp_base.specs.declared.element.Round.TheVariants.{A1, A2, B1, B2}
+use Rattle.bit_vote.specs.Vote.{Cell}
+use Rattle.run.specs.Element.{Kept, Heard}
+use Rattle.run.specs.Noted.{cells_made}
+use Rattle.run.specs.Together.{Carried, heard_of}
+
+-- no cells of n elements
+abbrev pub no_cells : ℕ → List Cell
+no_cells n = each_below n (λ s. None)
+
+-- nothing yet, among n elements
+abbrev pub nothing_heard : ℕ → Heard
+nothing_heard n = record {
+  patterns = no_cells n;
+  relayed_patterns = each_below n (λ relay. no_cells n);
+  packets = no_cells n;
+  relayed_packets = each_below n (λ relay. no_cells n);
+}
+
+-- what it heard, with the frames of one round more, by sender
+abbrev pub with_heard : Heard → Round → ℕ → (ℕ → List Cell) → Heard
+with_heard heard A1 n frames = record heard { patterns = each_below n (λ sender. cell_at (frames sender) 0) }
+with_heard heard A2 n frames = record heard { relayed_patterns = each_below n frames }
+with_heard heard B1 n frames = record heard { packets = each_below n (λ sender. cell_at (frames sender) 0) }
+with_heard heard B2 n frames = record heard { relayed_packets = each_below n frames }
+
+-- whether a round comes after another, or is it
+abbrev pub is_from : Round → Round → Bool
+is_from A1 later = true
+is_from A2 A1 = false
+is_from A2 A2 = true
+is_from A2 B1 = true
+is_from A2 B2 = true
+is_from B1 A1 = false
+is_from B1 A2 = false
+is_from B1 B1 = true
+is_from B1 B2 = true
+is_from B2 A1 = false
+is_from B2 A2 = false
+is_from B2 B1 = false
+is_from B2 B2 = true
+
+-- The frame of a round does not look at what is heard in that round or later.
+abbrev pub LooksBack : Type 0
+LooksBack = (kept : Kept) (heard : Heard) (n : ℕ) (frames : ℕ → List Cell) (round later : Round)
+    → is_from round later ≡ true → cells_made kept (with_heard heard later n frames) round ≡ cells_made kept heard round
+
+-- The four rounds of a cycle, heard one after another, are what it hears of the cycle.
+abbrev pub HeardByRounds : Type 0
+HeardByRounds = (heard : Heard) (n : ℕ) (carried : Carried) (me : ℕ)
+    → with_heard (with_heard (with_heard (with_heard heard A1 n (λ sender. carried A1 sender me)) A2 n (λ sender. carried A2 sender me)) B1 n (λ sender. carried B1 sender me)) B2 n (λ sender. carried B2 sender me)
+    ≡ heard_of carried n me
