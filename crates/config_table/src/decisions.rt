@@ -34,7 +34,7 @@ impl Default for GroupFlags {
 pub type VotedFlags = Row<GroupFlags, 40>;
 
 /// How a request is carried.
-#[derive(Clone, Copy)]
+#[derive(Clone, Copy, Debug, PartialEq, Eq)]
 pub enum Kind {
     Voted,
     Source(Ne),
@@ -42,7 +42,7 @@ pub enum Kind {
 }
 
 /// A request that is served. `admitted` is a set of elements.
-#[derive(Clone, Copy)]
+#[derive(Clone, Copy, Debug, PartialEq, Eq)]
 pub struct Service {
     pub vid: u8,
     pub desc: Descriptor,
@@ -52,7 +52,7 @@ pub struct Service {
 }
 
 /// What is done in a cycle.
-#[derive(Clone, Copy)]
+#[derive(Clone, Copy, Debug, PartialEq, Eq)]
 pub enum Decision {
     Idle,
     Discard {

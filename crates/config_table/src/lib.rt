@@ -7,6 +7,8 @@ mod errors;
 mod groups;
 mod lookups;
 mod tables;
+#[cfg(test)]
+mod tests;
 
 pub use decisions::{Decision, GroupFlags, Kind, Service, StateRow, VotedFlags};
 pub use errors::ConfigError;
