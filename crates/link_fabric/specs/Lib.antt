@@ -1,0 +1,5 @@
+-- What the clauses of this crate cite.
+pub mod Carrying
+pub mod Recorded
+pub mod Lies
+pub mod Rows

@@ -1,0 +1,12 @@
+//! Links and fabrics: how frames leave one element and come to another.
+#![tactic(auto)]
+
+mod fabrics;
+mod frames;
+mod links;
+#[cfg(test)]
+mod tests;
+
+pub use fabrics::{Carried, Fabric, Liar, Mesh, Recorder};
+pub use frames::copy_frame;
+pub use links::{Link, LinkEnd};
