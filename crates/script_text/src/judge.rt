@@ -11,8 +11,12 @@ use crate::items::{Item, SoFar};
 use fault_script::{Edit, EditKind};
 use ftpp_base::Ne;
 use packet_format::{Act, Descriptor};
-use script_words::codes::{CYCLE, CYCLES_LINE, FAULTY, NO_FORM, NUMBER, REJOIN, ROUND_OR_RECEIVER, TOO_MANY_ACTS};
-use script_words::fields::{bits, byte, frame, is_named, number, offset, other, packet, processor, round};
+use script_words::codes::{
+    CYCLE, CYCLES_LINE, FAULTY, NO_FORM, NUMBER, REJOIN, ROUND_OR_RECEIVER, TOO_MANY_ACTS,
+};
+use script_words::fields::{
+    bits, byte, frame, is_named, number, offset, other, packet, processor, round,
+};
 use script_words::lines::{without_carriage_return, words};
 
 impl SoFar {

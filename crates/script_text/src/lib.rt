@@ -9,12 +9,11 @@ mod reading;
 #[cfg(test)]
 mod tests;
 
-pub use print::print_script;
-pub use reading::read_script;
-
 use fault_script::Edit;
 use ftpp_base::Ne;
 use packet_format::Act;
+pub use print::print_script;
+pub use reading::read_script;
 use thiserror::Error;
 
 /// What is asked of a run.
