@@ -1,0 +1,139 @@
+//! What one element holds of an exchange, and what it makes of it.
+
+ghost use Rattle.std.specs.Prelude.{◌≡◌, ◌≢◌, ◌<◌, ◌≤◌, ◌^◌};
+ghost use Rattle.ftpp_base.specs.Lists.{cell_at};
+ghost use Rattle.two_round.specs.Echoes.{no_echoes, with_copy, with_relayed, relayed_at, word_of, result_for};
+ghost use Rattle.two_round.specs.Agreement.{IsAgreed};
+
+use crate::packed::PackedRows;
+use bit_vote::{Cells, vote_lanes};
+use ftpp_base::{Ne, Row};
+use std::marker::Model;
+
+/// What one element holds of an exchange in two rounds among `N` elements: its first-round copies by
+/// sender, its own value included, and the second-round cells by relay and sender. Cells are optional
+/// rows of `B` bytes.
+#[derive(Clone, Copy, Debug)]
+pub struct TwoRound<const N: usize, const B: usize> {
+    me: Ne,
+    copies: PackedRows<N, B>,
+    relayed: [PackedRows<N, B>; N],
+}
+
+impl<const N: usize, const B: usize> Model for TwoRound<N, B> {
+    ghost use Rattle.std.specs.Prelude.{◌≡◌, ◌<◌, ◌≤◌, ◌^◌, length};
+    ghost use Rattle.two_round.specs.Echoes.{Echoes};
+
+    ghost Value = { Echoes };
+
+    ghost view = { λ x. record { me = x.me; copies = x.copies; relayed = x.relayed } };
+
+    ghost invariant = { λ x. (x.me < N) × (N ≤ 5) × (length x.copies ≡ N) × (length x.relayed ≡ N) × (B < 2 ^ 32) };
+
+    ghost inverse = { λ x. record { me = x.me; copies = x.copies; relayed = x.relayed } };
+}
+
+impl<const N: usize, const B: usize> TwoRound<N, B> {
+    /// The exchange of element `me`, which has heard nothing.
+    pub fn new(me: Ne) -> TwoRound<N, B>
+        requires among { me < N }
+        requires few { N ≤ 5 }
+        requires small { B < 2 ^ 32 }
+        ensures { result ≡ no_echoes N me }
+    {
+        TwoRound {
+            me,
+            copies: PackedRows::absent(),
+            relayed: [PackedRows::absent(); N],
+        }
+    }
+
+    /// Forgets all that was heard.
+    pub fn restart(&mut self)
+        ensures { self.new ≡ no_echoes N self.old.me }
+    {
+        *self = TwoRound::new(self.me);
+    }
+
+    /// Takes the element's own value.
+    pub fn first(&mut self, own: Option<[u8; B]>)
+        ensures { self.new ≡ with_copy self.old self.old.me own.entry }
+    {
+        self.copies.set(self.me.index(), own);
+    }
+
+    /// Takes the value that another element sent in the first round.
+    pub fn take_first(&mut self, from: Ne, cell: Option<[u8; B]>)
+        requires among { from < N }
+        requires other { from ≢ self.old.me }
+        ensures { self.new ≡ with_copy self.old from cell.entry }
+    {
+        self.copies.set(from.index(), cell);
+    }
+
+    /// What the element sends in the second round: its first-round copies, its own value included.
+    pub fn echo(&self) -> Cells<N, B>
+        ensures { result ≡ self.now.copies }
+    {
+        self.copies.cells()
+    }
+
+    /// Takes the copies that another element sent in the second round.
+    pub fn take_echo(&mut self, from: Ne, cells: Cells<N, B>)
+        requires among { from < N }
+        requires other { from ≢ self.old.me }
+        ensures { self.new ≡ with_relayed self.old from cells.entry }
+    {
+        self.relayed[from.index()] = PackedRows::of(&cells);
+    }
+
+    /// The first-round copy of a source.
+    pub fn copy(&self, source: Ne) -> Option<[u8; B]>
+        requires { source < N }
+        ensures { result ≡ cell_at self.now.copies source }
+    {
+        self.copies.get(source.index())
+    }
+
+    /// The second-round cell of a relay about a source.
+    pub fn relayed(&self, relay: Ne, source: Ne) -> Option<[u8; B]>
+        requires relay { relay < N }
+        requires source { source < N }
+        requires other { relay ≢ self.now.me }
+        ensures { result ≡ relayed_at self.now relay source }
+    {
+        self.relayed[relay.index()].get(source.index())
+    }
+
+    /// What the element counts as an element's word about a source: its own copy, or the cell that the
+    /// other one relayed.
+    fn word(&self, of: usize, source: Ne) -> Option<[u8; B]>
+        requires of { of < N }
+        requires source { source < N }
+        ensures { result ≡ word_of self.now source of }
+    {
+        if of == self.me.index() {
+            self.copies.get(source.index())
+        } else {
+            self.relayed[of].get(source.index())
+        }
+    }
+
+    /// The result for a source: the vote over the words of all elements but the source, ascending. It
+    /// is none exactly where at most half of these are present.
+    pub fn result(&self, source: Ne) -> Option<[u8; B]>
+        requires { source < N }
+        ensures vote { result ≡ result_for self.now source }
+        // Of the faulty source, too, it is what every other element comes to.
+        ensures agreed { IsAgreed B N self.now source result }
+    {
+        let elements = self.copies.len();
+        let mut words = Row::<Option<[u8; B]>, N>::new();
+        for of in 0..elements {
+            if of != source.index() {
+                words.push(self.word(of, source));
+            }
+        }
+        vote_lanes(words.as_slice())
+    }
+}
