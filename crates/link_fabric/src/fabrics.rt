@@ -5,8 +5,7 @@ ghost use Rattle.std.specs.List.{list_any};
 ghost use Rattle.link_fabric.specs.declared.fabrics.Carried.{Carried};
 ghost use Rattle.link_fabric.specs.Carrying.{AddsTold};
 
-use crate::frames::copy_frame;
-use frame_format::FrameBuf;
+use frame_format::{FrameBuf, copy_frame};
 use ftpp_base::{Ne, NoMemory, Slot};
 use std::alloc::Global;
 

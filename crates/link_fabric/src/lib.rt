@@ -2,11 +2,9 @@
 #![tactic(auto)]
 
 mod fabrics;
-mod frames;
 mod links;
 #[cfg(test)]
 mod tests;
 
 pub use fabrics::{Carried, Fabric, Liar, Mesh, Recorder};
-pub use frames::copy_frame;
 pub use links::{Link, LinkEnd};

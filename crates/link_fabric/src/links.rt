@@ -5,9 +5,8 @@ ghost use Rattle.std.proofs.Common.{rules};
 ghost use Rattle.std.proofs.lemmas.Grind.{common_steps};
 ghost use Rattle.link_fabric.specs.Rows.{rows_of};
 
-use crate::frames::copy_frame;
 use arrayvec::ArrayVec;
-use frame_format::FrameBuf;
+use frame_format::{FrameBuf, copy_frame};
 use ftpp_base::Ne;
 
 /// What an element takes frames from and puts frames to. It has a row of bytes for each element, both for

@@ -2,7 +2,7 @@
 
 ghost use Rattle.std.specs.Prelude.{◌≡◌};
 
-use frame_format::FrameBuf;
+use crate::FrameBuf;
 
 /// Copies all bytes of a frame, as one slice.
 pub fn copy_frame(from: &FrameBuf, into: &mut FrameBuf)
