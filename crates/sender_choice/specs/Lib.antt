@@ -1,0 +1,4 @@
+pub mod Sinces
+pub mod Scan
+pub mod Pairs
+pub mod Calls

@@ -1,0 +1,15 @@
+//! Which of the groups that wait is the oldest.
+#![tactic(auto)]
+
+mod calls;
+mod chooser;
+mod index;
+mod scan;
+
+pub use calls::{ChoiceCall, drive};
+pub use chooser::Chooser;
+pub use index::IndexChooser;
+pub use scan::ScanChooser;
+
+#[cfg(test)]
+mod tests;
