@@ -1,0 +1,4 @@
+pub mod Mapped
+pub mod Oldest
+pub mod Seats
+pub mod Elements

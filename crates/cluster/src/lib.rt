@@ -1,0 +1,11 @@
+//! A cluster without a faulty element, for posts of class 1: one scoreboard, and the queues of all processors.
+#![tactic(auto)]
+
+mod cycles;
+mod exchange;
+mod ports;
+mod report;
+mod requests;
+
+pub use cycles::Cluster;
+pub use report::PlainReport;
