@@ -11,7 +11,7 @@ use Rattle.ftpp_top.specs.declared.script.Script.{Script}
 use Rattle.ftpp_top.specs.declared.script.ScriptError.{ScriptError}
 use Rattle.ftpp_top.specs.declared.script.ScriptError.TheVariants.{At, Memory}
 use Rattle.ftpp_top.specs.Lines.{is_newline, words_of, lines_of, pieces_left}
-use Rattle.ftpp_top.specs.Script.{SoFar, at_start, line_read, after_item, after_line, after_lines, Keeps, Takes, TakesAll, plan_from, script_of, Reads}
+use Rattle.ftpp_top.specs.Script.{SoFar, at_start, IsWithin, line_read, after_item, after_line, after_lines, Keeps, Takes, TakesAll, plan_from, script_of, Reads}
 
 -- what is known between two lines
 pub record Walks (bytes : List ℕ) (s : SoFar) (rest : Option (List ℕ)) (line : ℕ) : Type 0 where
@@ -67,6 +67,11 @@ walk_done bytes s line w = (omega (arith, w.count), sym w.same)
 -- a line that is left has a number within the text
 pub line_within : (bytes : List ℕ) (s : SoFar) (text front : List ℕ) (rest : Option (List ℕ)) (line : ℕ) → Walks bytes s (Some text) line → slice_split is_newline text ≡ front ∷ pieces_left rest → line ≤ length bytes
 line_within bytes s text front rest line w cut = omega (arith, w.count, ap length cut, count_by-le-length is_newline bytes)
+
+-- a cycle below the length that was said
+pub within_said : (o : Option ℕ) (total c : ℕ) → o ≡ Some total → c < total → IsWithin o c
+within_said None total c e l = absurd cc
+within_said (Some t) total c e l = let same : t ≡ total = cc in omega arith
 
 -- how much is left
 abbrev pub left : Option (Bor (List ℕ)) → ℕ

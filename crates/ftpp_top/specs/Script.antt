@@ -1,7 +1,7 @@
 -- A script as its lines say, one after another, or its first refused line.
-use Rattle.std.specs.Prelude.{◌≡◌, ℕ, ◌+◌, ◌<◌, Bool, ◌&&◌, ◌==◌, nat_lt, nat_le, List, [], ◌∷◌, ◌++◌, codes, count_by, Option, Some, None, is_some, Result, Ok, Err, if◌then◌else◌}
+use Rattle.std.specs.Prelude.{◌≡◌, ℕ, ◌+◌, ◌<◌, ◌≤◌, Bool, ◌&&◌, ◌==◌, nat_lt, nat_le, List, [], ◌∷◌, ◌++◌, codes, count_by, Option, Some, None, is_some, Result, Ok, Err, if◌then◌else◌}
 use Rattle.packet_format.specs.declared.Act.{Act}
-use Rattle.packet_format.specs.declared.Act.TheVariants.{Post}
+use Rattle.packet_format.specs.declared.Act.TheVariants.{Post, Read}
 use Rattle.ftpp_top.specs.declared.script.Item.{Item}
 use Rattle.ftpp_top.specs.declared.script.Item.TheVariants.{Cycles, Posted}
 use Rattle.ftpp_top.specs.declared.script.Reader.{Reader}
@@ -129,10 +129,20 @@ Reads (Ok script) read = read ≡ Ok (plan_of script)
 Reads (Err Memory) read = Unit {0}
 Reads (Err (At line code)) read = read ≡ Err (record { line = line; code = code })
 
--- an item of a cycle with room for one more
-abbrev pub HasRoom : SoFar → Item → Type 0
-HasRoom s (Cycles c) = Unit {0}
-HasRoom s (Posted c act) = asked_at s c < 80
+-- a post of class 1 of a processor in range to one of the groups
+abbrev pub IsPosted : Act → Type 0
+IsPosted (Post proc desc packet) = (proc.ne < 4) × (proc.port < 8) × (desc.class ≡ 1) × (1 ≤ desc.dest) × (desc.dest ≤ 5)
+IsPosted (Read proc) = ⊥
+
+-- a cycle of a run whose length was said
+abbrev pub IsWithin : Option ℕ → ℕ → Type 0
+IsWithin None c = ⊥
+IsWithin (Some total) c = c < total
+
+-- what every item keeps to
+abbrev pub IsLawful : SoFar → Item → Type 0
+IsLawful s (Cycles c) = (s.cycles ≡ None) × (1 ≤ c) × (c ≤ 100000)
+IsLawful s (Posted c act) = (asked_at s c < 80) × (s.last ≤ c) × IsWithin s.cycles c × IsPosted act
 
 -- what became of an item: kept, or no memory was left
 abbrev pub Keeps : SoFar → Item → Result Unit ScriptError → SoFar → Type 0

@@ -45,7 +45,7 @@ pub(crate) fn number(word: &[u8]) -> Result<u64, u8>
 #[tactic(auto, unfolding(crate::specs::Fields::number_within))]
 pub(crate) fn number_between(low: u32, high: u32, word: &[u8]) -> Result<u32, u8>
     ensures value { result ≡ number_within low high word.now }
-    ensures small { IfOk result (λ n. n ≤ high) }
+    ensures bounds { IfOk result (λ n. (low ≤ n) × (n ≤ high)) }
 {
     let n = number(word)?;
     if n < u64::from(low) || n > u64::from(high) {
@@ -57,7 +57,8 @@ pub(crate) fn number_between(low: u32, high: u32, word: &[u8]) -> Result<u32, u8
 /// An element below 4 and a port below 8.
 #[tactic(auto, unfolding(crate::specs::Fields::proc_of))]
 pub(crate) fn processor(word: &[u8]) -> Result<Proc, u8>
-    ensures { result ≡ proc_of word.now }
+    ensures value { result ≡ proc_of word.now }
+    ensures bounds { IfOk result (λ p. (p.ne < 4) × (p.port < 8)) }
 {
     match word {
         [e, dot, p] => {

@@ -2,5 +2,11 @@
 #![tactic(auto)]
 
 mod fields;
+mod report;
 mod script;
+mod tables;
+mod text;
+mod totals;
 mod words;
+
+pub use tables::built_in_4;

@@ -1,10 +1,11 @@
 //! A script, line by line.
 
-ghost use Rattle.std.specs.Prelude.{◌≡◌, ◌+◌, ◌<◌, ◌≤◌, length, map, slice_index, ◌==◌, IfOk, IfSome};
+ghost use Rattle.std.specs.Prelude.{◌≡◌, ◌+◌, ◌<◌, ◌≤◌, length, map, slice_index, ◌==◌, IfOk, IfSome, OnOk, Some};
+ghost use Rattle.ftpp_top.specs.Acts.{IsSound, IsPlayable};
 ghost use Rattle.std.specs.Str.Lines.{strip_carriage_return};
 ghost use Rattle.ftpp_top.specs.declared.script.ScriptError.TheVariants.{Memory};
 ghost use Rattle.ftpp_top.specs.Lines.{words_of};
-ghost use Rattle.ftpp_top.specs.Script.{at_start, held, length_of, in_order, asked_at, with_room, cycles_line, post_line, at_item, line_item, line_read, script_of, plan_from, HasRoom, Keeps, Takes, TakesAll, Reads};
+ghost use Rattle.ftpp_top.specs.Script.{at_start, held, length_of, in_order, asked_at, with_room, cycles_line, post_line, at_item, line_item, line_read, script_of, plan_from, plan_of, IsPosted, IsWithin, IsLawful, Keeps, Takes, TakesAll, Reads};
 
 use crate::fields::{REFUSED, is_named, number, number_between, packet, processor};
 use crate::words::{cut_line, without_carriage_return, words};
@@ -64,7 +65,8 @@ impl Reader {
     }
 
     fn length(&self) -> Result<u32, u8>
-        ensures { result ≡ length_of (held self.now) }
+        ensures value { result ≡ length_of (held self.now) }
+        ensures said { IfOk result (λ total. self.now.cycles ≡ Some total) }
     {
         match self.cycles {
             None => Err(REFUSED),
@@ -74,7 +76,8 @@ impl Reader {
 
     #[tactic(auto, unfolding(crate::specs::Script::in_order))]
     fn ordered(&self, total: u32, c: u64) -> Result<u32, u8>
-        ensures { result ≡ in_order (held self.now) total c }
+        ensures value { result ≡ in_order (held self.now) total c }
+        ensures order { IfOk result (λ at. (at < total) × (self.now.last ≤ at)) }
     {
         if c >= u64::from(total) || c < u64::from(self.last) {
             return Err(REFUSED);
@@ -90,8 +93,11 @@ impl Reader {
 
     #[tactic(auto, unfolding(crate::specs::Script::with_room))]
     fn with_room(&self, c: u32, act: Act) -> Result<Item, u8>
+        requires within { IsWithin self.now.cycles c }
+        requires order { self.now.last ≤ c }
+        requires post { IsPosted act }
         ensures value { result ≡ with_room (held self.now) c act }
-        ensures room { IfOk result (HasRoom (held self.now)) }
+        ensures lawful { IfOk result (IsLawful (held self.now)) }
     {
         if self.asked_at(c) >= 80 {
             return Err(REFUSED);
@@ -102,7 +108,7 @@ impl Reader {
     #[tactic(auto, unfolding(crate::specs::Script::cycles_line))]
     fn cycles_item(&self, count: &[u8]) -> Result<Item, u8>
         ensures value { result ≡ cycles_line (held self.now) count.now }
-        ensures room { IfOk result (HasRoom (held self.now)) }
+        ensures lawful { IfOk result (IsLawful (held self.now)) }
     {
         if self.cycles.is_some() {
             return Err(REFUSED);
@@ -111,7 +117,7 @@ impl Reader {
         Ok(Item::Cycles(c))
     }
 
-    #[tactic(auto, unfolding(crate::specs::Script::post_line))]
+    #[tactic(auto, using(crate::proofs::Steps::within_said), unfolding(crate::specs::Script::post_line))]
     fn post_item(
         &self,
         cycle: &[u8],
@@ -122,7 +128,7 @@ impl Reader {
         bytes: &[u8],
     ) -> Result<Item, u8>
         ensures value { result ≡ post_line (held self.now) cycle.now proc.now dest.now class.now source.now bytes.now }
-        ensures room { IfOk result (HasRoom (held self.now)) }
+        ensures lawful { IfOk result (IsLawful (held self.now)) }
     {
         let total = self.length()?;
         let c = number(cycle)?;
@@ -143,7 +149,7 @@ impl Reader {
     #[tactic(auto, unfolding(crate::specs::Script::at_item))]
     fn at_item(&self, cycle: &[u8], name: &[u8], more: &[&[u8]]) -> Result<Item, u8>
         ensures value { result ≡ at_item (held self.now) cycle.now name.now (map (λ w. w.now) more.now) }
-        ensures room { IfOk result (HasRoom (held self.now)) }
+        ensures lawful { IfOk result (IsLawful (held self.now)) }
     {
         match more {
             [proc, dest, class, source, bytes] => {
@@ -159,7 +165,7 @@ impl Reader {
     #[tactic(auto, unfolding(crate::specs::Script::line_item))]
     fn item(&self, words: &[&[u8]]) -> Result<Item, u8>
         ensures value { result ≡ line_item (held self.now) (map (λ w. w.now) words.now) }
-        ensures room { IfOk result (HasRoom (held self.now)) }
+        ensures lawful { IfOk result (IsLawful (held self.now)) }
     {
         match words {
             [first, count] => {
@@ -181,7 +187,7 @@ impl Reader {
     #[tactic(auto, unfolding(crate::specs::Script::line_read))]
     fn words_item(&self, words: &[&[u8]]) -> Result<Option<Item>, u8>
         ensures value { result ≡ line_read (held self.now) (map (λ w. w.now) words.now) }
-        ensures room { IfOk result (λ item. IfSome item (HasRoom (held self.now))) }
+        ensures lawful { IfOk result (λ item. IfSome item (IsLawful (held self.now))) }
     {
         if let [first, ..] = words {
             if starts_comment(first) {
@@ -197,15 +203,18 @@ impl Reader {
     #[tactic(auto, using(crate::proofs::Forms::line_read_take))]
     fn line(&self, line: &[u8]) -> Result<Option<Item>, u8>
         ensures value { result ≡ line_read (held self.now) (words_of (strip_carriage_return line.now)) }
-        ensures room { IfOk result (λ item. IfSome item (HasRoom (held self.now))) }
+        ensures lawful { IfOk result (λ item. IfSome item (IsLawful (held self.now))) }
     {
         let found = words(without_carriage_return(line));
         self.words_item(found.as_slice())
     }
 
+    #[tactic(auto, using(crate::proofs::Sound::item_sound))]
     fn keep(&mut self, item: Item) -> Result<(), ScriptError>
-        requires { HasRoom (held self.old) item }
-        ensures { Keeps (held self.old) item result (held self.new) }
+        requires lawful { IsLawful (held self.old) item }
+        requires sound { IsSound (held self.old) }
+        ensures kept { Keeps (held self.old) item result (held self.new) }
+        ensures sound { OnOk result (IsSound (held self.new)) }
     {
         match item {
             Item::Cycles(c) => self.cycles = Some(c),
@@ -219,7 +228,9 @@ impl Reader {
     }
 
     fn take_line(&mut self, line: &[u8], number: u32) -> Result<(), ScriptError>
-        ensures { Takes (held self.old) (line_read (held self.old) (words_of (strip_carriage_return line.now))) number result (held self.new) }
+        requires { IsSound (held self.old) }
+        ensures sound { OnOk result (IsSound (held self.new)) }
+        ensures taken { Takes (held self.old) (line_read (held self.old) (words_of (strip_carriage_return line.now))) number result (held self.new) }
     {
         match self.line(line) {
             Err(code) => Err(ScriptError::At { line: number, code }),
@@ -232,7 +243,8 @@ impl Reader {
     fn read_lines(&mut self, bytes: &[u8]) -> Result<u32, ScriptError>
         requires start { held self.old ≡ at_start }
         requires len { length bytes.now ≤ 8388608 }
-        ensures { TakesAll bytes.now result (held self.new) }
+        ensures sound { OnOk result (IsSound (held self.new)) }
+        ensures taken { TakesAll bytes.now result (held self.new) }
     {
         let mut rest = Some(bytes);
         let mut line = 0u32;
@@ -249,8 +261,11 @@ impl Reader {
     }
 
     // The script, if its length was said.
+    #[tactic(auto, using(crate::proofs::Sound::playable))]
     fn finish(self, last: u32) -> Result<Script, ScriptError>
-        ensures { Reads result (plan_from last self.cycles self.acts.items) }
+        requires { IsSound (held self) }
+        ensures playable { IfOk result (λ script. IsPlayable (plan_of script)) }
+        ensures read { Reads result (plan_from last self.cycles self.acts.items) }
     {
         match self.cycles {
             None => Err(ScriptError::At {
@@ -268,7 +283,8 @@ impl Reader {
 /// The script of a text, or its first refused line.
 pub(crate) fn read_script(alloc: Global, bytes: &[u8]) -> Result<Script, ScriptError>
     requires { length bytes.now ≤ 8388608 }
-    ensures { Reads result (script_of bytes.now) }
+    ensures playable { IfOk result (λ script. IsPlayable (plan_of script)) }
+    ensures read { Reads result (script_of bytes.now) }
 {
     let mut reader = Reader::new(alloc);
     match reader.read_lines(bytes) {
