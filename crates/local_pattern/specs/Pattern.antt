@@ -55,6 +55,10 @@ read_column (Some row) = map (λ port. read_entry (slice_range row (4 * port) (4
 abbrev pub IsPlain : Entry → Type 0
 IsPlain e = e.not_empty ≡ false → e.desc ≡ no_descriptor
 
+-- entries that their bytes tell
+abbrev pub ArePlain : List Entry → Type 0
+ArePlain entries = (port : ℕ) → IsPlain (slice_index_or entries port quiet)
+
 -- the entry of a processor in the columns of all elements
 abbrev pub entry_of : List (List Entry) → Proc → Entry
 entry_of pattern proc = slice_index_or (slice_index_or pattern proc.ne []) proc.port quiet

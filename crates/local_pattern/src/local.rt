@@ -1,0 +1,103 @@
+//! The pattern of one element: an entry for each of its eight ports.
+
+ghost use Rattle.std.specs.Prelude.{◌≡◌, ◌<◌, ◌+◌, ◌*◌, ◌++◌, length, take, drop, replicate, slice_set, slice_index_or, option_map, Some};
+ghost use Rattle.local_pattern.specs.Pattern.{IsPlain, column_bytes, entry_bytes, read_column, quiet, quiet_column};
+
+use crate::Entry;
+use crate::spelling::{QUIET, read, spelled};
+use std::marker::Model;
+
+/// What the eight ports of an element show, by port. Clauses see the list of entries.
+#[derive(Clone, Copy, Debug, PartialEq, Eq)]
+pub struct LocalPattern {
+    entries: [Entry; 8],
+}
+
+impl Model for LocalPattern {
+    ghost use Rattle.std.specs.Prelude.{◌≡◌, List, length};
+    ghost use Rattle.local_pattern.specs.declared.Entry.{Entry};
+    ghost use Rattle.local_pattern.specs.Pattern.{ArePlain};
+
+    ghost Value = { List Entry };
+
+    ghost view = { λ p. p.entries };
+
+    ghost invariant = { λ p. (length p.entries ≡ 8) × ArePlain p.entries };
+
+    ghost inverse = { λ l. record { entries = l } };
+}
+
+/// Puts the bytes of a port's entry at their place.
+fn put_entry(bytes: &mut [u8; 32], port: usize, entry: &Entry)
+    requires port { port < 8 }
+    requires plain { IsPlain entry.now }
+    ensures bytes { bytes.new ≡ take (4 * port) bytes.old ++ entry_bytes entry.now ++ drop (4 * port + 4) bytes.old }
+    ensures length { length bytes.new ≡ 32 }
+{
+    let at = 4 * port;
+    bytes[at..at + 4].copy_from_slice(&spelled(entry));
+}
+
+/// What a row is read as, port by port.
+fn read_row(row: &[u8; 32]) -> LocalPattern
+    ensures { result ≡ read_column (Some row.now) }
+{
+    let mut entries = [QUIET; 8];
+    for port in 0..8 {
+        let at = 4 * port;
+        entries[port] = read(row[at], row[at + 1], row[at + 2], row[at + 3]);
+    }
+    LocalPattern { entries }
+}
+
+impl LocalPattern {
+    /// No request and no space at any port.
+    pub fn quiet() -> LocalPattern
+        ensures { result ≡ quiet_column }
+    {
+        LocalPattern {
+            entries: [QUIET; 8],
+        }
+    }
+
+    /// What a port shows.
+    pub fn entry(&self, port: u8) -> Entry
+        requires { port < 8 }
+        ensures entry { result ≡ slice_index_or self.now port quiet }
+        ensures plain { IsPlain result }
+    {
+        self.entries[usize::from(port)]
+    }
+
+    /// Changes what a port shows. An entry that is empty has a descriptor of zeros.
+    pub fn set(&mut self, port: u8, entry: Entry)
+        requires port { port < 8 }
+        requires plain { IsPlain entry }
+        ensures { self.new ≡ slice_set self.old port entry }
+    {
+        self.entries[usize::from(port)] = entry;
+    }
+
+    /// The row that the element sends.
+    pub fn encode(&self) -> [u8; 32]
+        ensures bytes { result ≡ column_bytes self.now }
+        ensures read_back { read_column (Some result) ≡ self.now }
+    {
+        let mut bytes = [0; 32];
+        for port in 0..8 {
+            put_entry(&mut bytes, port, &self.entries[port]);
+        }
+        bytes
+    }
+
+    /// What a row, or none, is read as: an entry outside the grammar shows no request and no space.
+    #[tactic(auto, using(crate::proofs::Columns::read_absent))]
+    pub fn read(cell: Option<&[u8; 32]>) -> LocalPattern
+        ensures { result ≡ read_column (option_map (λ row. row.now) cell.entry) }
+    {
+        match cell {
+            Some(row) => read_row(row),
+            None => LocalPattern::quiet(),
+        }
+    }
+}

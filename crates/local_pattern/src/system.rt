@@ -1,0 +1,63 @@
+//! The agreed pattern: what the ports of all elements show.
+
+ghost use Rattle.std.specs.Prelude.{◌≡◌, ◌<◌, [], replicate, slice_set, slice_index_or};
+ghost use Rattle.local_pattern.specs.Pattern.{entry_of, quiet_column};
+
+use crate::{Entry, LocalPattern};
+use ftpp_base::{Ne, Proc};
+use std::marker::Model;
+
+/// The local patterns of `N` elements, by element. Clauses see the list of columns.
+#[derive(Clone, Copy, Debug, PartialEq, Eq)]
+pub struct SystemPattern<const N: usize> {
+    columns: [LocalPattern; N],
+}
+
+impl<const N: usize> Model for SystemPattern<N> {
+    ghost use Rattle.std.specs.Prelude.{◌≡◌, List, length};
+    ghost use Rattle.local_pattern.specs.declared.Entry.{Entry};
+
+    ghost Value = { List (List Entry) };
+
+    ghost view = { λ p. p.columns };
+
+    ghost invariant = { λ p. length p.columns ≡ N };
+
+    ghost inverse = { λ l. record { columns = l } };
+}
+
+impl<const N: usize> SystemPattern<N> {
+    /// No request and no space at any port of any element.
+    pub fn quiet() -> SystemPattern<N>
+        ensures { result ≡ replicate N quiet_column }
+    {
+        SystemPattern {
+            columns: [LocalPattern::quiet(); N],
+        }
+    }
+
+    /// Changes what the ports of an element show.
+    pub fn set_column(&mut self, ne: Ne, column: LocalPattern)
+        requires { ne < N }
+        ensures { self.new ≡ slice_set self.old ne column }
+    {
+        self.columns[ne.index()] = column;
+    }
+
+    /// What the ports of an element show.
+    pub fn column(&self, ne: Ne) -> &LocalPattern
+        requires { ne < N }
+        ensures { result.now ≡ slice_index_or self.now ne [] }
+    {
+        &self.columns[ne.index()]
+    }
+
+    /// What a processor's port shows.
+    pub fn entry(&self, proc: Proc) -> Entry
+        requires element { proc.ne < N }
+        requires port { proc.port < 8 }
+        ensures { result ≡ entry_of self.now proc }
+    {
+        self.columns[usize::from(proc.ne)].entry(proc.port)
+    }
+}
