@@ -1,6 +1,6 @@
 -- Updates as bytes, and the table that an update gives.
 use Rattle.std.specs.Prelude.{ℕ, ◌+◌, ◌*◌, min, Bool, true, ◌&&◌, ◌==◌, nat_lt, List, [], ◌∷◌, ◌++◌, filter, not, length, slice_index, slice_range, Option, Some, None, is_some, is_none, if◌then◌else◌}
-use Rattle.std.specs.List.{flat_map}
+use Rattle.std.specs.List.{flat_map, list_all}
 use Rattle.arrayvec.specs.ArrayVec.{ArrayVec}
 use Rattle.ftpp_base.specs.Lists.{each_below}
 use Rattle.ftpp_base.specs.Sets.{with_number, without_number}
@@ -31,6 +31,10 @@ named_bytes (Form vid members ts tr) = 5 ∷ vid ∷ length members.items ∷ tw
 -- the packet of an update: its bytes, filled up with zeros
 abbrev pub update_bytes : Update → List ℕ
 update_bytes update = filled_up 64 (named_bytes update)
+
+-- whether all bytes are 0
+abbrev pub all_zero : List ℕ → Bool
+all_zero bytes = list_all (λ b. b == 0) bytes
 
 -- the member index of Mask and Admit is below 4
 abbrev pub has_index : Update → Bool
@@ -81,6 +85,14 @@ with_admitted member g = record g { masked = without_number g.masked member }
 
 abbrev pub with_timeouts : ℕ → ℕ → Group → Group
 with_timeouts ts tr g = record g { ts = ts; tr = tr }
+
+-- what an update changes in the group that it names
+abbrev pub change_of : Update → Group → Group
+change_of (Mask vid member) g = with_masked member g
+change_of (Admit vid member) g = with_admitted member g
+change_of (Timeouts vid ts tr) g = with_timeouts ts tr g
+change_of (Dissolve vid) g = g
+change_of (Form vid members ts tr) g = g
 
 -- a group as it is formed: no member masked, no expiry, usual limits
 abbrev pub formed : ℕ → ArrayVec Proc → ℕ → ℕ → Group

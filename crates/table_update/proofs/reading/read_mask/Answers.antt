@@ -1,0 +1,5 @@
+use Rattle.table_update.proofs.Spelled.{mask_spelled, is_update}
+use Rattle.table_update.proofs.reading.read_mask.Goals as goal
+
+pub returns : goal.returns
+returns c = is_update c.args.bytes.now _ _ c.if-not-is_zero_from.false (mask_spelled c.args.bytes.now _ c.told-bytes c.requires c.if-bytes-ge-MOST_MEMBERS.false c.is_zero_from.ensures)
