@@ -128,9 +128,10 @@ impl<const N: usize, const B: usize> TwoRound<N, B> {
         ensures agreed { IsAgreed B N self.now source result }
     {
         let elements = self.copies.len();
+        let skipped = source.index();
         let mut words = Row::<Option<[u8; B]>, N>::new();
         for of in 0..elements {
-            if of != source.index() {
+            if of != skipped {
                 words.push(self.word(of, source));
             }
         }

@@ -5,7 +5,7 @@ use Rattle.two_round.specs.Echoes.{Echoes, word_of, result_for}
 use Rattle.two_round.proofs.Heard.{agreement-heard}
 use Rattle.two_round.proofs.OthersMore.{others_same, others_more, few_more}
 use Rattle.two_round.proofs.exchange.TwoRound.result.Goals as goal
-use Rattle.two_round.proofs.exchange.TwoRound.result.Goals.{then-of-index, else-of-index}
+use Rattle.two_round.proofs.exchange.TwoRound.result.Goals.{then-of-skipped, else-of-skipped}
 
 voted : (x : Echoes) (source n k : ℕ) (words : List Cell) (result : Cell) → result ≡ vote words → words ≡ map (word_of x source) (others k source)
     → k ≡ n → length x.copies ≡ n → result ≡ result_for x source
@@ -17,14 +17,14 @@ pub loop-of-preserved : goal.loop-of-preserved
 loop-of-preserved g c =
     let word = word_of c.args.self.now c.args.source in
     let before = c.loop-of.invariant in
-    elim c.if-of-index.branch [
-      | then-of-index w ↦
+    elim c.if-of-skipped.branch [
+      | then-of-skipped w ↦
           let apart : c.loop-of.of ≢ c.args.source = omega arith in
           rw w.words-is (record {
             are = others_more word c.args.source c.loop-of.words.items _ w.word.result c.loop-of.of before.are w.push.ensures.items apart w.word.ensures;
             few = few_more c.loop-of.words.items _ w.word.result c.loop-of.of w.push.ensures.items before.few;
           })
-      | else-of-index w ↦
+      | else-of-skipped w ↦
           rw w.words-is (record {
             are = others_same word c.args.source c.loop-of.words.items c.loop-of.of before.are (omega arith);
             few = omega (arith, before.few);
