@@ -4,7 +4,7 @@ use Rattle.std.specs.Prelude.{◌&&◌, ◌==◌}
 use Rattle.std.specs.List.{AllByRecursion}
 use Rattle.std.proofs.lemmas.Bool.{eq-eqb, ne_eqb, and_from}
 use Rattle.std.proofs.lemmas.List.FromFn.{get_or-map-range_with_len}
-use Rattle.ftpp_base.specs.Lists.{cell_at, is_this, each_below}
+use Rattle.ftpp_base.specs.Lists.{cell_at, is_this}
 use Rattle.ftpp_base.specs.Sets.{has}
 use Rattle.ftpp_base.specs.declared.element.Proc.{Proc}
 use Rattle.packet_format.specs.Packets.{same_descriptor}
@@ -22,12 +22,15 @@ use Rattle.processor_buffers.specs.Queues.{Posted, carries}
 use Rattle.data_exchange.specs.Entries.{contributes, contribution, may_send, member_at, own_row, packet_of_head, senders, members_vote, entry_by, fault_free_members, fault_free_majority}
 use Rattle.data_exchange.proofs.EntryLaws.{members_vote-alike}
 use Rattle.ftpp_base.proofs.Among.{each, one_of, find-passes, either}
-use Rattle.run.proofs.Accepted.{HasRow}
+use Rattle.data_exchange.specs.Laws.{HasRow, round_of}
 use Rattle.config_table.proofs.ValidTable.{AreApart}
-use Rattle.run.proofs.FaultFree.{fault_free-live}
-use Rattle.run.proofs.NextQueues.{senders-named}
+use Rattle.data_exchange.proofs.FaultFree.{fault_free-live}
 use Rattle.bit_vote.proofs.Widths.{vote-cell, cells-map, cells-remove, cells-at}
 use Rattle.bit_vote.proofs.Copies.{copy-fine, agreed-fine}
+
+-- the live members of a named group send
+pub senders-named : (table : TableValue) (vid : ℕ) (g : Group) → group_named table vid ≡ Some g → senders table vid ≡ live_members g
+senders-named table vid g named = ap (λ (o : Option Group). unwrap_or (option_map live_members o) []) named
 
 -- ---- the member at an element
 
@@ -63,10 +66,6 @@ pub record IsAlike (table : TableValue) (service : Service) (heads : Proc → Op
   pub admitted : (p : Proc) → Contains (fault_free_members faulty g) p → has service.admitted p.ne ≡ true
   pub row : HasRow posted
   pub cells : AreCells 64 heard
-
--- the first round of packets of an exchange
-abbrev pub round_of : TableValue → Service → (Proc → Option Posted) → Option ℕ → List Cell → FirstRound
-round_of table service heads faulty heard = record { faulty = faulty; own = each_below table.n (own_row table heads service); heard = heard }
 
 -- ---- what each element has of its own
 

@@ -1,6 +1,6 @@
 -- Who contributes to an exchange, and the entry that each element makes of it.
-use Rattle.std.specs.Prelude.{ℕ, Bool, true, false, not, ◌&&◌, ◌==◌, List, [], ◌∷◌, map, filter, find, length, Option, Some, None, option_map, unwrap_or, is_none, if◌then◌else◌}
-use Rattle.std.specs.List.{list_all}
+use Rattle.std.specs.Prelude.{ℕ, ◌<◌, Bool, true, false, not, ◌&&◌, ◌==◌, List, [], ◌∷◌, map, filter, find, length, Option, Some, None, option_map, unwrap_or, is_none, if◌then◌else◌}
+use Rattle.std.specs.List.{list_all, enumerate_from}
 use Rattle.ftpp_base.specs.Bits.{is_majority}
 use Rattle.ftpp_base.specs.Lists.{is_this}
 use Rattle.ftpp_base.specs.Sets.{has}
@@ -32,6 +32,10 @@ contributes service ne = has service.admitted ne && may_send service.kind ne
 -- what an element counts as: its value where it contributes, and none otherwise
 abbrev pub contribution : Service → (ℕ → Cell) → ℕ → Cell
 contribution service value ne = if contributes service ne then value ne else None
+
+-- the ones of some members that are not masked
+abbrev pub live_in : Set8 → List Proc → List Proc
+live_in masked members = map (λ seat. seat.1) (filter (λ seat. not (has masked seat.0)) (enumerate_from 0 members))
 
 -- the live members of the group that is served
 abbrev pub senders : TableValue → ℕ → List Proc
@@ -108,6 +112,12 @@ abbrev pub is_voted : Kind → Bool
 is_voted Voted = true
 is_voted (Source s) = false
 is_voted Every = false
+
+-- one element alone sends, and is one of n
+abbrev pub IsSourceBelow : ℕ → Kind → Type 0
+IsSourceBelow n Voted = ⊥
+IsSourceBelow n (Source s) = s < n
+IsSourceBelow n Every = ⊥
 
 -- whether the faulty element is one of the set
 abbrev pub includes : Set8 → Option ℕ → Bool

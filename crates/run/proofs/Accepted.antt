@@ -9,7 +9,6 @@ use Rattle.packet_format.specs.declared.Act.{Act}
 use Rattle.packet_format.specs.declared.Act.TheVariants.{Post, Read}
 use Rattle.packet_format.specs.declared.ActAnswer.{ActAnswer}
 use Rattle.packet_format.specs.declared.ActAnswer.TheVariants.{Posted as Accepted, PostFull, Got, Nothing}
-use Rattle.bit_vote.specs.Vote.{IsRow}
 use Rattle.config_table.specs.Groups.{same_proc}
 use Rattle.config_table.specs.Table.{TableValue, out_limit}
 use Rattle.processor_buffers.specs.Queues.{Queues, Posted, first, rest, has_out_room, after_post, after_read}
@@ -18,6 +17,7 @@ use Rattle.run.specs.Premises.{accepted_among, posted_of, IsPostOfRow}
 use Rattle.ftpp_base.proofs.Among.{all-append}
 use Rattle.config_table.proofs.Procs.{same_proc-true}
 use Rattle.run.proofs.Places.{IsPlace, place-kept, with_queues-is}
+pub use Rattle.data_exchange.specs.Laws.{HasRow}
 
 -- what waits to be sent at a processor
 abbrev pub output_of : AllQueues → Proc → List Posted
@@ -131,10 +131,6 @@ accepted-dated cycle p (act ∷ acts) (answer ∷ answers) =
     let P : ℕ × Posted → Type 0 = λ (post : ℕ × Posted). post.0 ≡ cycle in
     subst (AllByRecursion P) (sym (one_more cycle p act answer acts answers))
     (all-append P (accepted_one cycle p act answer) (accepted_among cycle p acts answers) (dated_one cycle p act answer) (accepted-dated cycle p acts answers))
-
--- a packet of 64 bytes
-abbrev pub HasRow : Posted → Type 0
-HasRow posted = IsRow 64 posted.1.bytes
 
 -- a post of a packet of 64 bytes, or none
 row_by : (cycle : ℕ) (posted : Posted) (b : Bool) → HasRow posted → AllByRecursion HasRow (map posted_of (cond b ((cycle, posted) ∷ []) []))

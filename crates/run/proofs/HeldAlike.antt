@@ -24,11 +24,11 @@ use Rattle.run.specs.Cycle.{State, Input, packet_round}
 use Rattle.run.specs.Alone.{IsSound, IsInput}
 use Rattle.run.specs.Laws.{is_source}
 use Rattle.run.proofs.Accepted.{HasRow}
-use Rattle.run.proofs.AlikeEntry.{IsAlike, entry-alike}
+use Rattle.data_exchange.proofs.AlikeEntry.{IsAlike, entry-alike}
 use Rattle.run.proofs.AloneLaws.{pattern_in, decision_in, packets_in, size_of}
 use Rattle.run.proofs.DecisionLaws.{Serves, IfExchange, decision_serves}
 use Rattle.run.proofs.EqualLaws.{holds_head, admitted_holds, common-all, common-posted, alike_parts, small_by}
-use Rattle.run.proofs.FaultFree.{fault_free-live}
+use Rattle.data_exchange.proofs.FaultFree.{fault_free-live}
 use Rattle.run.proofs.Heads.{voted-holder}
 use Rattle.run.proofs.RoundShapes.{IsHead, head_posted}
 

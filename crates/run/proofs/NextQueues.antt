@@ -26,10 +26,7 @@ use Rattle.run.proofs.Places.{IsPlace, place-kept, places-kept, with_queues-keep
 use Rattle.config_table.proofs.ValidTable.{AreApart, named-there, members-others}
 use Rattle.config_table.proofs.LiveMembers.{apart-filter, live-apart, all-live}
 use Rattle.run.proofs.Accepted.{output_of, HasRow}
-
--- the live members of a named group send
-pub senders-named : (table : TableValue) (vid : ℕ) (g : Group) → group_named table vid ≡ Some g → senders table vid ≡ live_members g
-senders-named table vid g named = ap (λ (o : Option Group). unwrap_or (option_map live_members o) []) named
+pub use Rattle.data_exchange.proofs.AlikeEntry.{senders-named}
 
 -- ---- the members of the group whose request is taken
 

@@ -21,7 +21,7 @@ use Rattle.scoreboard.specs.Service.{takes_of}
 use Rattle.run.specs.Claims.{admitted_set, taken_request}
 use Rattle.config_table.proofs.ValidTable.{members-range, named-there, valid-n}
 use Rattle.config_table.proofs.LiveMembers.{live-member}
-use Rattle.run.proofs.FaultFree.{fault_free-live}
+use Rattle.data_exchange.proofs.FaultFree.{fault_free-live}
 use Rattle.run.specs.Premises.{posted_of}
 use Rattle.run.proofs.Accepted.{output_of, first-drop}
 use Rattle.run.proofs.Heads.{holds-head, head-holds, voted-holder, unanimous-holds, holder-admitted, held_alike-all}

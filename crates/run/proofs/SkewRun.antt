@@ -29,7 +29,7 @@ use Rattle.ftpp_base.proofs.Items.{find-map}
 use Rattle.run.proofs.Places.{IsPlace}
 use Rattle.config_table.proofs.ValidTable.{members-range, named-there}
 use Rattle.config_table.proofs.LiveMembers.{live-member}
-use Rattle.run.proofs.FaultFree.{fault_free-live}
+use Rattle.data_exchange.proofs.FaultFree.{fault_free-live}
 use Rattle.ftpp_base.proofs.Among.{all-append}
 use Rattle.run.proofs.Accepted.{output_of, acts-place, acts-output, accepted-rows, slice_get-left, slice_get-long, HasRow}
 use Rattle.run.proofs.Calm.{shown-calm, state-calm, state_at-cycle, all_posts, posts_before, posts_before-suc, posts_before-all, posts_before-dated, posts_before-early}

@@ -18,7 +18,7 @@ use Rattle.scoreboard.specs.Service.{takes_of}
 use Rattle.run.proofs.Places.{IsPlace}
 use Rattle.config_table.proofs.ValidTable.{members-apart, named-there}
 use Rattle.config_table.proofs.LiveMembers.{live-member}
-use Rattle.run.proofs.FaultFree.{fault_free-live}
+use Rattle.data_exchange.proofs.FaultFree.{fault_free-live}
 use Rattle.run.specs.Premises.{posted_of}
 use Rattle.run.proofs.Accepted.{output_of, rest-drop, HasRow}
 use Rattle.scoreboard.proofs.NextLine.{after_decision-own, after_decision-other}

@@ -31,13 +31,14 @@ use Rattle.run.specs.Claims.{IsPastExpiry, is_from_faulty}
 use Rattle.ftpp_base.proofs.Among.{contains-filter}
 use Rattle.config_table.proofs.ValidTable.{members-range, members-apart, named-there}
 use Rattle.config_table.proofs.LiveMembers.{live-member, live-apart, live-index}
-use Rattle.run.proofs.FaultFree.{fault_free-live}
+use Rattle.data_exchange.proofs.FaultFree.{fault_free-live}
 use Rattle.run.proofs.Accepted.{HasRow}
 use Rattle.run.proofs.NextQueues.{HasRows}
 use Rattle.packet_format.proofs.Descriptors.{same_descriptor-refl}
 use Rattle.run.proofs.Heads.{voted-holder}
 use Rattle.run.proofs.Chosen.{request_for, request-marked}
-use Rattle.run.proofs.AlikeEntry.{IsAlike, round_of, entry-alike}
+use Rattle.data_exchange.specs.Laws.{round_of}
+use Rattle.data_exchange.proofs.AlikeEntry.{IsAlike, entry-alike}
 use Rattle.run.proofs.SkewCycle.{IsReady, IsTaken}
 
 -- ---- a discard

@@ -1,27 +1,24 @@
 -- An exchange of one source that is fault-free and admitted has that source's head as its entry at each element.
 use Rattle.std.proofs.Common.{◌≡◌, ℕ, ◌<◌, Bool, true, false, cond, List, [], ◌∷◌, refl, ap, sym, ◌∙◌, ◌⊎◌, inl, inr, subst}
 use Rattle.std.specs.Prelude.{Option, Some, None, is_some, option_map, unwrap_or, filter, ◌&&◌, ◌==◌}
-use Rattle.std.proofs.lemmas.Bool.{eq-eqb, and_from, or_cases}
+use Rattle.std.proofs.lemmas.Bool.{or_cases}
 use Rattle.ftpp_base.specs.Lists.{is_this, is_in}
 use Rattle.ftpp_base.specs.Sets.{has}
 use Rattle.ftpp_base.specs.declared.element.Proc.{Proc}
 use Rattle.ftpp_base.proofs.SetLaws.{has-set_where}
 use Rattle.packet_format.specs.declared.Descriptor.{Descriptor}
 use Rattle.packet_format.specs.Packets.{same_descriptor, no_descriptor}
-use Rattle.bit_vote.specs.Vote.{Cell}
-use Rattle.bit_vote.specs.Agreed.{agreed, copy_at}
-use Rattle.two_round.proofs.Agreement.{at_place}
-use Rattle.config_table.specs.declared.decisions.Kind.{Kind}
 use Rattle.config_table.specs.declared.decisions.Kind.TheVariants.{Source}
+use Rattle.config_table.specs.declared.decisions.Decision.{Decision}
 use Rattle.config_table.specs.declared.decisions.Decision.TheVariants.{Exchange}
 use Rattle.config_table.specs.declared.decisions.Service.{Service}
 use Rattle.config_table.specs.Groups.{live_members, elements_of}
-use Rattle.config_table.specs.Table.{TableValue}
 use Rattle.flag_vote.specs.Flags.{holds}
 use Rattle.processor_buffers.specs.Queues.{Posted}
-use Rattle.data_exchange.specs.Entries.{may_send, contributes, contribution, senders, member_at, packet_of_head, entry_by, entry_at, packet_in}
+use Rattle.data_exchange.proofs.HeldEntries.{source_entries}
+use Rattle.data_exchange.specs.Entries.{senders, member_at, entry_at, packet_in}
 use Rattle.run.specs.Processors.{head_at}
-use Rattle.run.specs.Cycle.{State, Input, row_sent, step, shown_by}
+use Rattle.run.specs.Cycle.{State, Input, packet_round, step, shown_by}
 use Rattle.run.specs.Alone.{IsSound, before_rounds}
 use Rattle.run.specs.Laws.{AlwaysSourced}
 use Rattle.run.proofs.PortLaws.{IsAt, IsAt-member_at}
@@ -30,7 +27,6 @@ use Rattle.run.proofs.DecisionLaws.{Serves, IfExchange, decision_serves}
 use Rattle.run.proofs.EqualLaws.{holds_set, below_eight, small_by}
 use Rattle.run.proofs.Equal.{entry_there}
 use Rattle.run.proofs.AloneLaws.{pattern_in, decision_in, packets_in, size_of}
-use Rattle.bit_vote.proofs.Copies.{agreed-fine}
 use Rattle.config_table.proofs.NamedGroups.{AreApart-named, InRange, InRange-named, elements-kept}
 use Rattle.ftpp_base.proofs.Among.{all-found}
 use Rattle.run.proofs.Heads.{entry-own}
@@ -114,33 +110,17 @@ admitted_has t input service ne sound decided l good admitted =
 
 -- ---- the entry
 
--- the entry of one source
-sourced_by : (kind : Kind) (source : ℕ) (table : TableValue) (service : Service) (copies results : ℕ → Cell) → kind ≡ Source source → entry_by kind table service copies results ≡ contribution service results source
-sourced_by kind source table service copies results e = ap (λ k. entry_by k table service copies results) e
-
--- an admitted source contributes
-source_counts : (service : Service) (source : ℕ) → service.kind ≡ Source source → has service.admitted source ≡ true → contributes service source ≡ true
-source_counts service source kind admitted =
-    and_from (has service.admitted source) (may_send service.kind source) admitted (ap (λ k. may_send k source) kind ∙ eq-eqb source source refl)
-
--- so the entry is its head
+-- the entry is the head of its source
 sourced_entry : (t : State) (input : Input) (service : Service) (source me : ℕ) (a : Admitted t service source) → decision_in t input ≡ Exchange service → service.kind ≡ Source source → source < t.table.n
     → is_this input.faulty source ≡ false → has service.admitted source ≡ true
     → entry_at t.table service (packets_in t input) me ≡ Some a.head.1.bytes
-unfolding entry_at
 sourced_entry t input service source me a decided kind l good admitted =
-    let round = packets_in t input in
-    let counts = source_counts service source kind admitted in
-    sourced_by service.kind source t.table service (copy_at round me) (agreed round) kind
-    ∙ ap (λ b. cond b (agreed round source) None) counts
-    ∙ agreed-fine round source good
-    ∙ at_place t.table.n (row_sent t.table t.queues (decision_in t input)) source None l
-    ∙ ap (λ d. row_sent t.table t.queues d source) decided
-    ∙ (λ i. cond (counts i) (unwrap_or (option_map (λ p. packet_of_head service.desc (head_at t.queues p)) (a.live i)) None) None)
-    ∙ ap (packet_of_head service.desc) a.held
-    ∙ ap (λ b. cond b (Some a.head.1.bytes) None) a.carries
+    let Entry : Decision → Type 0 = λ d. entry_at t.table service (packet_round t.table t.queues d input) me ≡ Some a.head.1.bytes in
+    subst Entry (sym decided)
+    (source_entries t.table service (head_at t.queues) input.faulty input.packets source a.head me
+    (record { kind = kind; among = l; fault_free = good; admitted = admitted; proc = a.proc; member = a.live; waits = a.held; carried = a.carries }))
 
--- The entry is the head of its source.
+-- So it is in each cycle.
 pub always_sourced : AlwaysSourced
 unfolding step shown_by
 always_sourced s input sound is service source decided kind l good admitted =
