@@ -2,11 +2,12 @@
 
 ghost use Rattle.std.specs.Prelude.{◌≡◌, ◌≤◌, ◌↔◌, length, replicate, map, All, IfOk, IsTrue, None};
 ghost use Rattle.processor_buffers.specs.Queues.{no_queues};
-ghost use Rattle.cluster.specs.Requests.{line_of};
+ghost use Rattle.cluster.specs.Requests.{line_of, vids_in};
+ghost use Rattle.cluster.specs.Plain.{is_plain_group, is_plain};
 
-use crate::ports::{self, Port};
+use crate::port::Port;
 use crate::requests::{self, Line};
-use crate::{PlainReport, exchange};
+use crate::{PlainReport, exchange, ports};
 use config_table::{Group, Table};
 use ftpp_base::NoMemory;
 use packet_format::{Act, HostActs};
@@ -38,13 +39,29 @@ impl Model for Cluster {
 /// How many processors have queues: eight for each of five elements.
 const PROCESSORS: usize = 40;
 
+/// Whether the requests of a group never expire, and its ports have the limits 16 and 32.
+fn is_plain_group(group: &Group) -> bool
+    ensures { result ≡ is_plain_group group.now }
+{
+    group.tx == 0 && group.outs == 16 && group.ins == 32
+}
+
+/// Whether this cluster can run the table: the requests of its groups never expire, and their ports have the limits 16
+/// and 32.
+pub fn is_plain(table: &Table) -> bool
+    ensures { result ≡ is_plain table.now }
+{
+    table.groups().iter().all(|group| is_plain_group(group))
+}
+
 /// Empty queues for all processors.
 fn empty_ports(alloc: Global) -> Result<Vec<Port>, NoMemory>
     ensures { IfOk result (λ v. v.items ≡ replicate 40 no_queues) }
 {
-    let mut ports = Vec::new(alloc);
+    let mut ports = Vec::with_capacity(alloc, PROCESSORS).map_err(|_| NoMemory)?;
     for _place in 0..PROCESSORS {
-        ports.push(Port::new()).map_err(|_| NoMemory)?;
+        let port = Port::new(alloc)?;
+        ports.push(port).map_err(|_| NoMemory)?;
     }
     Ok(ports)
 }
@@ -53,7 +70,7 @@ fn empty_ports(alloc: Global) -> Result<Vec<Port>, NoMemory>
 fn lines_of(alloc: Global, groups: &[Group]) -> Result<Vec<Line>, NoMemory>
     ensures { IfOk result (λ v. v.items ≡ map line_of groups.now) }
 {
-    let mut lines = Vec::new(alloc);
+    let mut lines = Vec::with_capacity(alloc, groups.len()).map_err(|_| NoMemory)?;
     for group in groups {
         lines.push(requests::line_of(group)).map_err(|_| NoMemory)?;
     }
@@ -61,10 +78,10 @@ fn lines_of(alloc: Global, groups: &[Group]) -> Result<Vec<Line>, NoMemory>
 }
 
 impl Cluster {
-    ghost use Rattle.cluster.specs.Plain.{start, is_plain, report_of, after_cycle, IsPost};
+    ghost use Rattle.cluster.specs.Plain.{start, report_of, after_cycle, IsPost};
 
-    /// A cluster of that table for at most so many cycles (1 to 100,000) and acts (at most 8,000,000). The requests of
-    /// its groups never expire, and their ports have the limits 16 and 32.
+    /// A cluster of a table that `is_plain` passes, for at most so many cycles (1 to 100,000) and acts (at most
+    /// 8,000,000). It takes all memory that its cycles need.
     pub fn new(alloc: Global, table: &Table, cycles: u32, acts: usize) -> Result<Cluster, NoMemory>
         requires plain { IsTrue (is_plain table.now) }
         requires some { 1 ≤ cycles }
@@ -99,7 +116,7 @@ impl Cluster {
     }
 
     /// Whether an act is a post of class 1 to one of the groups by a processor of the cluster.
-    pub fn is_post(&self, act: &Act) -> bool
+    fn is_post(&self, act: &Act) -> bool
         ensures { IsTrue result ↔ IsPost self.now act.now }
     {
         match act {
@@ -113,6 +130,13 @@ impl Cluster {
         }
     }
 
+    /// Whether all acts are posts of class 1 to one of the groups by a processor of the cluster.
+    pub fn are_posts(&self, host: &HostActs) -> bool
+        ensures { IsTrue result ↔ All (IsPost self.now) host.now.items }
+    {
+        host.iter().all(|act| self.is_post(act))
+    }
+
     /// One cycle: the acts, the votes on requests, the choice, and the exchange of the request that is chosen.
     #[tactic(auto, unfolding(crate::specs::Plain::report_of, crate::specs::Plain::after_cycle))]
     pub fn cycle(&mut self, host: &HostActs) -> PlainReport
@@ -121,6 +145,8 @@ impl Cluster {
         requires posts { All (IsPost self.old) host.now.items }
         ensures report { result ≡ report_of self.old host.now.items }
         ensures state { self.new ≡ after_cycle self.old host.now.items }
+        ensures elements { self.new.n ≡ self.old.n }
+        ensures groups { vids_in self.new.lines ≡ vids_in self.old.lines }
     {
         let now = self.cycle;
         ports::enter_all(self.ports.as_mut_slice(), host.as_slice());

@@ -7,7 +7,8 @@ ghost use Rattle.config_table.specs.Groups.{elements_of};
 ghost use Rattle.cluster.specs.Plain.{kind_for, decision_for, delivered_as, handed_of, queues_after, handed_for, queues_for, lines_for};
 ghost use Rattle.cluster.specs.Requests.{chosen};
 
-use crate::ports::{self, Port};
+use crate::port::Port;
+use crate::ports;
 use crate::requests::{self, Line, Request};
 use config_table::{Decision, Kind, Service};
 use ftpp_base::{Proc, Row, Set8};

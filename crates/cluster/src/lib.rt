@@ -3,9 +3,13 @@
 
 mod cycles;
 mod exchange;
+mod port;
 mod ports;
 mod report;
 mod requests;
 
-pub use cycles::Cluster;
+pub use cycles::{Cluster, is_plain};
 pub use report::PlainReport;
+
+#[cfg(test)]
+mod tests;

@@ -2,105 +2,14 @@
 
 ghost use Rattle.std.specs.Prelude.{◌≡◌, ◌+◌, ◌*◌, ◌≤◌, ◌<◌, length, map, count_by, filter};
 ghost use Rattle.std.specs.List.{list_all};
-ghost use Rattle.packet_format.specs.Packets.{same_descriptor};
 ghost use Rattle.processor_buffers.specs.Queues.{no_queues, first, head_of, carries, has_in_room, after_post, after_pop, after_delivery, handed_by};
 ghost use Rattle.cluster.specs.Ports.{out_limit, in_limit, place_of, queues_at, with_queues, request_shown, holds, has_space, after_act, after_acts, after_pops, after_deliveries, handed_at, bytes_of, copy_given, heads_vote};
 
+use crate::port::{self, Port};
 use bit_vote::vote;
 use ftpp_base::{Proc, Row};
 use packet_format::{Act, Delivered, Descriptor, Packet};
 use processor_buffers::Handed;
-use std::marker::Model;
-
-/// How many packets an output holds, and an input.
-const OUT_LIMIT: usize = 16;
-
-const IN_LIMIT: usize = 32;
-
-/// The output and the input of one processor, the oldest first.
-#[derive(Drop)]
-pub struct Port {
-    output: Row<(Descriptor, Packet), 16>,
-    input: Row<Delivered, 32>,
-}
-
-impl Model for Port {
-    ghost use Rattle.processor_buffers.specs.Queues.{Queues};
-
-    ghost Value = { Queues };
-
-    ghost view = { λ p. record { output = p.output.items; input = p.input.items } };
-}
-
-impl Port {
-    /// Empty queues.
-    pub fn new() -> Port
-        ensures { result ≡ no_queues }
-    {
-        Port {
-            output: Row::new(),
-            input: Row::new(),
-        }
-    }
-
-    /// The packet that would be sent next.
-    fn head(&self) -> Option<(Descriptor, Packet)>
-        ensures { result ≡ head_of self.now }
-    {
-        self.output.first().copied()
-    }
-
-    /// Enters a packet, unless the output is full.
-    fn post(&mut self, desc: Descriptor, packet: Packet)
-        ensures { self.new ≡ after_post out_limit (desc, packet) self.old }
-    {
-        if self.output.len() < OUT_LIMIT {
-            self.output.push((desc, packet));
-        }
-    }
-
-    /// Gives up the head, if it carries the request.
-    fn pop(&mut self, desc: &Descriptor)
-        ensures { self.new ≡ after_pop desc.now self.old }
-    {
-        if carries(self.head(), desc) {
-            self.output.remove(0);
-        }
-    }
-
-    /// Whether the input is not full.
-    fn has_space(&self) -> bool
-        ensures { result ≡ has_in_room in_limit self.now }
-    {
-        self.input.len() < IN_LIMIT
-    }
-
-    /// Stores a packet, unless the input is full.
-    fn deliver(&mut self, packet: &Delivered)
-        ensures { self.new ≡ after_delivery in_limit packet.now self.old }
-    {
-        if self.input.len() < IN_LIMIT {
-            self.input.push(*packet);
-        }
-    }
-}
-
-/// Whether two requests are equal.
-pub(crate) fn is_same(a: &Descriptor, b: &Descriptor) -> bool
-    ensures { result ≡ same_descriptor a.now b.now }
-{
-    a.dest == b.dest && a.class == b.class && a.source == b.source
-}
-
-/// Whether a head carries the request.
-fn carries(head: Option<(Descriptor, Packet)>, desc: &Descriptor) -> bool
-    ensures { result ≡ carries head desc.now }
-{
-    match head {
-        Some((found, _)) => is_same(&found, desc),
-        None => false,
-    }
-}
 
 /// The place of a processor's queues.
 fn place_of(proc: Proc) -> usize
@@ -130,7 +39,7 @@ pub(crate) fn request_shown(ports: &[Port], proc: Proc) -> Option<Descriptor>
 pub(crate) fn holds(ports: &[Port], desc: &Descriptor, proc: Proc) -> bool
     ensures { result ≡ holds ports.now desc.now proc }
 {
-    carries(head_at(ports, proc), desc)
+    port::carries(head_at(ports, proc), desc)
 }
 
 /// How many of some processors hold the request.
@@ -269,7 +178,7 @@ fn bytes_of(desc: &Descriptor, head: Option<(Descriptor, Packet)>) -> Option<[u8
 {
     match head {
         Some((_, packet)) => {
-            if carries(head, desc) {
+            if port::carries(head, desc) {
                 Some(packet.bytes)
             } else {
                 None

@@ -3,7 +3,8 @@
 ghost use Rattle.std.specs.Prelude.{◌≡◌, ◌≤◌, length};
 ghost use Rattle.config_table.specs.Groups.{live_members};
 
-use crate::ports::{self, Port};
+use crate::port::{self, Port};
+use crate::ports;
 use config_table::Group;
 use ftpp_base::{Proc, Row};
 use packet_format::Descriptor;
@@ -109,7 +110,7 @@ fn since_of(now: u32, before: Option<(Descriptor, u32)>, desc: &Descriptor) -> u
 {
     match before {
         Some((waited, since)) => {
-            if ports::is_same(&waited, desc) {
+            if port::is_same(&waited, desc) {
                 since
             } else {
                 now
