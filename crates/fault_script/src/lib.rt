@@ -1,8 +1,16 @@
 //! What the faulty element does to its frames.
 #![tactic(auto)]
 
+mod adversaries;
+mod kept;
+mod players;
+#[cfg(test)]
+mod tests;
+
+pub use adversaries::{Adversary, NoFault};
 use frame_format::FrameBuf;
 use ftpp_base::{Ne, Round};
+pub use players::Player;
 
 /// What is done to a frame.
 #[derive(Debug, Drop)]
