@@ -54,7 +54,7 @@ below_still (x ∷ acts) m n l a =
     let first : x.0 ≤ m = All-head (λ y. y.0 ≤ m) x acts a in
     All-cons (λ y. y.0 ≤ n) x acts (omega arith) (below_still acts m n l (All-tail (λ y. y.0 ≤ m) x acts a))
 
-length-more : {A : Type 0} (xs : List A) (x : A) → length (xs ++ x ∷ []) ≡ length xs + 1
+pub length-more : {A : Type 0} (xs : List A) (x : A) → length (xs ++ x ∷ []) ≡ length xs + 1
 length-more [] x = refl
 length-more (y ∷ xs) x = let ih = length-more xs x in omega (arith, ih)
 

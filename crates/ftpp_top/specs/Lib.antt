@@ -1,7 +1,9 @@
 -- What the clauses of this crate cite.
 pub mod Acts
+pub mod Ends
 pub mod Fields
 pub mod Lines
+pub mod Run
 pub mod Script
 pub mod Tables
 pub mod Texts
