@@ -1,12 +1,13 @@
 -- One element by itself: what it keeps between cycles, what it hears in a cycle, and what it makes of it.
 use Rattle.std.specs.Prelude.{ℕ, ◌+◌, ◌==◌, List, filter, slice_set, Option, Some, None, if◌then◌else◌}
 use Rattle.std.specs.List.{fold}
-use Rattle.ftpp_base.specs.Lists.{each_below, change_at, cell_at}
+use Rattle.ftpp_base.specs.Lists.{change_at, cell_at}
 use Rattle.ftpp_base.specs.declared.element.Proc.{Proc}
 use Rattle.packet_format.specs.declared.Packet.{Packet}
 use Rattle.bit_vote.specs.Vote.{Cell}
 use Rattle.two_round.specs.Echoes.{Echoes, result_for}
-use Rattle.local_pattern.specs.Pattern.{column_bytes, read_column}
+use Rattle.local_pattern.specs.Pattern.{column_bytes}
+pub use Rattle.pattern_exchange.specs.Settled.{settled}
 use Rattle.config_table.specs.declared.decisions.Service.{Service}
 use Rattle.config_table.specs.declared.decisions.Decision.{Decision}
 use Rattle.config_table.specs.declared.decisions.Decision.TheVariants.{Idle, Discard, Exchange}
@@ -53,10 +54,6 @@ pub record Made : Type 0 where
 -- the echoes of a round: what was heard, with its own cell in its own place
 abbrev pub echoes_of : ℕ → Cell → List Cell → List (List Cell) → Echoes
 echoes_of me own heard relayed = record { me = me; copies = slice_set heard me own; relayed = relayed }
-
--- the two-round results of all senders, read as columns
-abbrev pub settled : ℕ → Echoes → Pattern
-settled n echoes = each_below n (λ s. read_column (result_for echoes s))
 
 -- what an element sends in B1
 abbrev pub own_packet : Kept → Decision → Cell
