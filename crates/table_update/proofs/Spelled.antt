@@ -45,11 +45,11 @@ same_filled named bytes long fits e = same_behind named bytes (64 - length named
 -- ---- the bytes of a packet at their places
 
 -- some bytes from a place on, one by one
-abbrev items : List ℕ → ℕ → ℕ → List ℕ
+abbrev pub items : List ℕ → ℕ → ℕ → List ℕ
 items bytes i zero = []
 items bytes i (suc n) = slice_index bytes i ∷ items bytes (i + 1) n
 
-take-items : (bytes : List ℕ) (n i : ℕ) → i + n ≤ length bytes → take n (drop i bytes) ≡ items bytes i n
+pub take-items : (bytes : List ℕ) (n i : ℕ) → i + n ≤ length bytes → take n (drop i bytes) ≡ items bytes i n
 take-items bytes zero i fits = refl
 take-items bytes (suc n) i fits =
     ap (take (suc n)) (drop_more bytes i 0 (omega arith))
@@ -147,7 +147,7 @@ length-pairs (p ∷ ps) = let more = length-pairs ps in omega arith
 abbrev pub form_from : List ℕ → Update
 form_from bytes = Form (slice_index bytes 1) (record { items = members_from bytes }) (number_from (slice_range bytes 3 5)) (number_from (slice_range bytes 5 7))
 
-length-members : (bytes : List ℕ) → length (members_from bytes) ≡ min (slice_index bytes 2) 4
+pub length-members : (bytes : List ℕ) → length (members_from bytes) ≡ min (slice_index bytes 2) 4
 length-members bytes = length-map-range_with_len (pair_at bytes) 0 (min (slice_index bytes 2) 4)
 
 -- a size in range: the first bytes are those of the form
