@@ -1,7 +1,7 @@
 //! The log of an element: the latest entries, the oldest first.
 
 ghost use Rattle.std.specs.Prelude.{◌≡◌, ◌≤◌, ◌↔◌, [], ◌∷◌, ◌++◌, length, nat_lt, slice_get, option_copied, None, if◌then◌else◌, IfOk, IsTrue};
-ghost use Rattle.syndrome_log.specs.Log.{after_push};
+ghost use Rattle.syndrome_log.specs.Log.{after_push, last_kept};
 
 use crate::Syndrome;
 use circular_buffer::HeapCircularBuffer;
@@ -46,6 +46,13 @@ impl SyndromeLog {
         ensures overwritten { result ≡ (if nat_lt (length self.old) 1024 then None else slice_get self.old 0) }
     {
         self.ring.push_back(s)
+    }
+
+    /// Appends all these entries, in their order. The oldest of all give way to those that would not fit.
+    pub fn extend_from_slice(&mut self, entries: &[Syndrome])
+        ensures { self.new ≡ last_kept (self.old ++ entries.now) }
+    {
+        self.ring.extend_from_slice(entries);
     }
 
     /// How many entries there are.

@@ -24,6 +24,9 @@ fn holds_the_latest_entries(rt: HostRuntime) -> Result<(), Fail> {
     for (place, cycle) in [(0, Some(6)), (1, Some(7)), (1023, Some(1029)), (1024, None)] {
         assert_eq!(rt; log.get(place).map(|s| s.cycle), cycle, "at {place}");
     }
+    log.extend_from_slice(&[entry(1), entry(2)]);
+    assert_eq!(rt; (log.len(), log.get(0).copied()), (1024, Some(entry(8))));
+    assert_eq!(rt; log.get(1023).copied(), Some(entry(2)));
     log.clear();
     assert!(rt; log.is_empty() && log.get(0).is_none());
     assert_eq!(rt; log.push(entry(7)), None);
