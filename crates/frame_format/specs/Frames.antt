@@ -1,7 +1,7 @@
 -- The bytes of a frame, and the cells that any bytes read as.
-use Rattle.std.specs.Prelude.{◌≡◌, ℕ, ◌+◌, ◌*◌, ◌&&◌, ◌==◌, List, ◌∷◌, ◌++◌, drop, length, replicate, slice_index, slice_range, Option, Some, None, unwrap_or, All, IfSome, if◌then◌else◌}
-use Rattle.std.specs.List.{flat_map}
-use Rattle.ftpp_base.specs.Lists.{each_below}
+use Rattle.std.specs.Prelude.{◌≡◌, ℕ, ◌+◌, ◌*◌, ◌&&◌, ◌==◌, List, [], ◌∷◌, ◌++◌, drop, length, replicate, slice_index, slice_range, Option, Some, None, unwrap_or, if◌then◌else◌}
+use Rattle.std.specs.List.{flat_map, AllByRecursion}
+use Rattle.ftpp_base.specs.Lists.{each_below, cell_at}
 use Rattle.ftpp_base.specs.declared.element.Round.{Round}
 use Rattle.ftpp_base.specs.declared.element.Round.TheVariants.{A1, A2, B1, B2}
 use Rattle.ftpp_base.specs.declared.element.Slot.{Slot}
@@ -34,15 +34,43 @@ abbrev pub cell_bytes : ℕ → Cell → List ℕ
 cell_bytes width None = 0 ∷ replicate width 0
 cell_bytes width (Some row) = 1 ∷ row
 
+-- whether a frame of the round has one cell, or one for each element
+abbrev pub IsOfOne : Round → Type 0
+IsOfOne A1 = Unit {0}
+IsOfOne A2 = ⊥
+IsOfOne B1 = Unit {0}
+IsOfOne B2 = ⊥
+
+abbrev pub IsOfAll : Round → Type 0
+IsOfAll A1 = ⊥
+IsOfAll A2 = Unit {0}
+IsOfAll B1 = ⊥
+IsOfAll B2 = Unit {0}
+
+-- the six bytes before the cells
+abbrev pub frame_head : Slot → ℕ → List ℕ
+frame_head slot sender = kind_byte slot.round ∷ four_bytes slot.cycle ++ sender ∷ []
+
 -- the bytes of a frame
 abbrev pub frame_bytes : Slot → ℕ → List Cell → List ℕ
 frame_bytes slot sender cells = kind_byte slot.round ∷ four_bytes slot.cycle ++ sender ∷ flat_map (cell_bytes (width_in slot.round)) cells
+
+-- a cell that is absent or has a row of the width
+abbrev pub IsWide : ℕ → Cell → Type 0
+IsWide width None = Unit {0}
+IsWide width (Some row) = length row ≡ width
+
+-- These bytes are that many cells of a width, one after the other.
+pub record AreCells (count width : ℕ) (bytes : List ℕ) (cells : List Cell) : Type 0 where
+  pub number : length cells ≡ count
+  pub wide : AllByRecursion (IsWide width) cells
+  pub spelled : bytes ≡ flat_map (cell_bytes width) cells
 
 -- These bytes are the frame of those cells.
 pub record IsFrame (n : ℕ) (slot : Slot) (sender : ℕ) (bytes : List ℕ) (cells : List Cell) : Type 0 where
   pub spelled : bytes ≡ frame_bytes slot sender cells
   pub count : length cells ≡ cells_in n slot.round
-  pub width : All (λ cell. IfSome cell (λ row. length row ≡ width_in slot.round)) cells
+  pub wide : AllByRecursion (IsWide (width_in slot.round)) cells
 
 abbrev pub frame_length : ℕ → Round → ℕ
 frame_length n round = 6 + cells_in n round * (width_in round + 1)
@@ -66,3 +94,7 @@ decoded n slot sender bytes =
 -- what any bytes read as: outside the grammar all cells are absent
 abbrev pub reads_as : ℕ → Slot → ℕ → List ℕ → List Cell
 reads_as n slot sender bytes = unwrap_or (decoded n slot sender bytes) (replicate (cells_in n slot.round) None)
+
+-- the first of the cells, which is the only one in A1 and B1
+abbrev pub first_cell : List Cell → Cell
+first_cell cells = cell_at cells 0

@@ -1,0 +1,4 @@
+pub mod Parts
+pub mod Decoded
+pub mod Walks
+pub mod Calls
