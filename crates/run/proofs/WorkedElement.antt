@@ -1,26 +1,16 @@
 -- One element by itself makes of a cycle what the run shows of it: two worked cycles.
-use Rattle.std.proofs.Common.{◌≡◌, ℕ, [], ◌∷◌, refl, map}
-use Rattle.ftpp_base.specs.Bits.{byte_where}
+use Rattle.std.proofs.Common.{◌≡◌, ℕ, List, [], ◌∷◌, refl, map}
 use Rattle.ftpp_base.specs.Lists.{each_below}
 use Rattle.ftpp_base.specs.declared.element.Round.TheVariants.{A2, B2}
-use Rattle.bit_vote.specs.Vote.{row_vote, vote}
-use Rattle.bit_vote.specs.Agreed.{agreed, copy_at}
+use Rattle.bit_vote.specs.Agreed.{copy_at}
 use Rattle.two_round.specs.Echoes.{result_for}
-use Rattle.local_pattern.specs.Pattern.{read_entry, read_column}
-use Rattle.config_table.specs.Table.{group_error, table_error}
-use Rattle.flag_vote.specs.Flags.{voted_descriptor, flags_of}
-use Rattle.scoreboard.specs.Board.{marked}
-use Rattle.scoreboard.specs.Choice.{reason, is_eligible, kind_of, decision_of}
-use Rattle.table_update.specs.Updates.{updated, update_from}
-use Rattle.data_exchange.specs.Entries.{members_vote, entry_at, held_alike}
 use Rattle.run.specs.Processors.{ports_of}
-use Rattle.run.specs.Cycle.{State, Shown, Cycle, start, step, shown_by, served}
-use Rattle.run.specs.Run.{run, history}
+use Rattle.run.specs.Cycle.{State, Shown, Cycle, start, step}
 use Rattle.run.specs.Sent.{cells_sent}
-use Rattle.run.specs.Syndromes.{syndromes_at}
 use Rattle.run.specs.Element.{Kept, Heard, made, kept_after}
-use Rattle.run.proofs.WorkedRow.{four_elements, posts}
-use Rattle.run.proofs.WorkedRuns.{row_10}
+use Rattle.run.proofs.WorkedParts.{worked, Planned, four_elements, input_by}
+use Rattle.run.proofs.WorkedVotes.{voted_posts}
+use Rattle.run.proofs.WorkedUpdates.{two_faced_update}
 
 -- what an element keeps before a cycle, after its acts
 abbrev kept_in : State → Shown → ℕ → Kept
@@ -42,10 +32,19 @@ kept_of s ne = record { me = ne; cycle = s.cycle; table = s.table; scoreboard = 
 abbrev alone : State → Cycle → ℕ → Kept
 alone s c ne = kept_after (kept_in s c.shown ne) (made (kept_in s c.shown ne) (heard_in c.shown ne))
 
-posts_alone : map (alone (start four_elements) (step (start four_elements) posts)) (0 ∷ 1 ∷ 2 ∷ 3 ∷ []) ≡ map (kept_of (step (start four_elements) posts).state) (0 ∷ 1 ∷ 2 ∷ 3 ∷ [])
-unfolding run history step shown_by served decision_of marked flags_of voted_descriptor read_column read_entry agreed copy_at is_eligible reason kind_of vote row_vote byte_where entry_at members_vote syndromes_at held_alike updated update_from table_error group_error made kept_after result_for
-posts_alone = refl
+-- what all elements by themselves keep after the first cycle of a script, and what they keep in the run
+abbrev alone_after : List Planned → List Kept
+alone_after [] = []
+alone_after (c ∷ cs) = map (alone (start four_elements) (step (start four_elements) (input_by (start four_elements) c))) (0 ∷ 1 ∷ 2 ∷ 3 ∷ [])
 
-row_10_alone : map (alone (start four_elements) (step (start four_elements) row_10)) (0 ∷ 1 ∷ 2 ∷ 3 ∷ []) ≡ map (kept_of (step (start four_elements) row_10).state) (0 ∷ 1 ∷ 2 ∷ 3 ∷ [])
-unfolding run history step shown_by served decision_of marked flags_of voted_descriptor read_column read_entry agreed copy_at is_eligible reason kind_of vote row_vote byte_where entry_at members_vote syndromes_at held_alike updated update_from table_error group_error made kept_after result_for
-row_10_alone = refl
+abbrev in_run : List Planned → List Kept
+in_run [] = []
+in_run (c ∷ cs) = map (kept_of (step (start four_elements) (input_by (start four_elements) c)).state) (0 ∷ 1 ∷ 2 ∷ 3 ∷ [])
+
+voted_posts_alone : alone_after voted_posts ≡ in_run voted_posts
+unfolding worked made kept_after result_for
+voted_posts_alone = refl
+
+two_faced_update_alone : alone_after two_faced_update ≡ in_run two_faced_update
+unfolding worked made kept_after result_for
+two_faced_update_alone = refl

@@ -4,27 +4,20 @@ use Rattle.std.specs.Prelude.{◌==◌, nat_lt}
 use Rattle.std.specs.List.{AllByRecursion, list_all}
 use Rattle.std.proofs.lemmas.Bool.{and_parts, ltb-true}
 use Rattle.std.proofs.lemmas.List.Elements.{All-from_recursion}
-use Rattle.ftpp_base.specs.Bits.{byte_where}
 use Rattle.ftpp_base.specs.declared.element.Proc.{Proc}
 use Rattle.packet_format.specs.declared.Act.{Act}
 use Rattle.packet_format.specs.declared.Act.TheVariants.{Post}
-use Rattle.bit_vote.specs.Vote.{Cell, IsRow, IsCell, row_vote, vote}
-use Rattle.bit_vote.specs.Agreed.{agreed, copy_at}
-use Rattle.local_pattern.specs.Pattern.{read_entry, read_column, column_bytes}
-use Rattle.config_table.specs.Table.{group_error, table_error}
-use Rattle.flag_vote.specs.Flags.{voted_descriptor, flags_of}
-use Rattle.scoreboard.specs.Board.{marked}
-use Rattle.scoreboard.specs.Choice.{reason, is_eligible, kind_of, decision_of}
+use Rattle.bit_vote.specs.Vote.{Cell, IsRow, IsCell}
+use Rattle.local_pattern.specs.Pattern.{column_bytes}
 use Rattle.processor_buffers.specs.Queues.{Posted}
-use Rattle.table_update.specs.Updates.{updated, update_from}
-use Rattle.data_exchange.specs.Entries.{members_vote, entry_at, held_alike, fault_free_members}
-use Rattle.run.specs.Cycle.{Input, Shown, start, step, shown_by, served}
-use Rattle.run.specs.Run.{Journal, run, history, shown_at}
+use Rattle.data_exchange.specs.Entries.{fault_free_members}
+use Rattle.run.specs.Cycle.{Input, Shown, start}
+use Rattle.run.specs.Run.{Journal, history, shown_at}
 use Rattle.run.specs.Premises.{IsShaped, IsPostOfRow, IsSkewAlike, PostAlike, accepted_from}
 use Rattle.scoreboard.specs.Service.{takes_of}
 use Rattle.run.specs.Claims.{TakesPost, times_taken}
-use Rattle.run.proofs.WorkedRow.{proc, four_elements, four_elements_valid, packet_41, to_three}
-use Rattle.run.proofs.WorkedParts.{second as triplex}
+use Rattle.run.proofs.WorkedParts.{worked, proc, four_elements, four_elements_valid, packet_41, to_three}
+use Rattle.run.proofs.WorkedParts.{worked, second_group as triplex}
 use Rattle.ftpp_base.proofs.Among.{one_of}
 use Rattle.run.proofs.SkewRun.{no-loss}
 
@@ -81,12 +74,12 @@ one_alike cycles apart x y posted l m = record { equal = equal_at; follows = fol
 
 -- what the first member posts
 first_posts : accepted_from (start four_elements) late_second (proc 0 1) ≡ (0, (to_three, packet_41)) ∷ []
-unfolding run history step shown_by served decision_of marked flags_of voted_descriptor read_column read_entry agreed copy_at is_eligible reason kind_of vote row_vote byte_where entry_at members_vote held_alike updated update_from table_error group_error
+unfolding worked
 first_posts = refl
 
 -- what the second member posts
 second_posts : accepted_from (start four_elements) late_second (proc 1 1) ≡ (2, (to_three, packet_41)) ∷ []
-unfolding run history step shown_by served decision_of marked flags_of voted_descriptor read_column read_entry agreed copy_at is_eligible reason kind_of vote row_vote byte_where entry_at members_vote held_alike updated update_from table_error group_error
+unfolding worked
 second_posts = refl
 
 -- two members post alike
@@ -118,7 +111,7 @@ all_alike = (
 
 -- no update is applied
 no_change : map (λ (s : Shown). s.changed) (history four_elements late_second) ≡ None ∷ None ∷ None ∷ []
-unfolding run history step shown_by served decision_of marked flags_of voted_descriptor read_column read_entry agreed copy_at is_eligible reason kind_of vote row_vote byte_where entry_at members_vote held_alike updated update_from table_error group_error
+unfolding worked
 no_change = refl
 
 -- so none names the group
@@ -144,12 +137,12 @@ skew = record {
 
 -- the third cycle takes its request
 third_takes : takes_of 2 (shown_at four_elements late_second 2).decision ≡ true
-unfolding run history step shown_by served decision_of marked flags_of voted_descriptor read_column read_entry agreed copy_at is_eligible reason kind_of vote row_vote byte_where entry_at members_vote held_alike updated update_from table_error group_error
+unfolding worked
 third_takes = refl
 
 -- it is the first
 third_number : times_taken four_elements late_second 2 2 ≡ 0
-unfolding run history step shown_by served decision_of marked flags_of voted_descriptor read_column read_entry agreed copy_at is_eligible reason kind_of vote row_vote byte_where entry_at members_vote held_alike updated update_from table_error group_error
+unfolding worked
 third_number = refl
 
 -- so it takes the first post

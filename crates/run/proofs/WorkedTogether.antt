@@ -13,7 +13,7 @@ use Rattle.run.proofs.RunsLawful.{each_cycle_lawful}
 use Rattle.run.proofs.SentTaken.{some_is_carried}
 use Rattle.run.proofs.Sound.{start_sound}
 use Rattle.run.proofs.Together.{together}
-use Rattle.run.proofs.WorkedRow.{proc, four_elements, four_elements_valid, packet_41, to_three}
+use Rattle.run.proofs.WorkedParts.{proc, four_elements, four_elements_valid, packet_41, to_three}
 use Rattle.run.proofs.WorkedSkew.{shown_bytes, shows_it, beside, late_second, low_at, row_41}
 
 -- what the faulty element shows has 32 bytes
