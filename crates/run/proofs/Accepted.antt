@@ -13,7 +13,8 @@ use Rattle.config_table.specs.Groups.{same_proc}
 use Rattle.config_table.specs.Table.{TableValue, out_limit}
 use Rattle.processor_buffers.specs.Queues.{Queues, Posted, first, rest, has_out_room, after_post, after_read}
 use Rattle.run.specs.Processors.{AllQueues, queues_of, after_act, after_acts, answer_to, answers_to}
-use Rattle.run.specs.Premises.{accepted_among, posted_of, IsPostOfRow}
+use Rattle.run.specs.Alone.{IsAct}
+use Rattle.run.specs.Premises.{accepted_among, posted_of}
 use Rattle.ftpp_base.proofs.Among.{all-append}
 use Rattle.config_table.proofs.Procs.{same_proc-true}
 use Rattle.run.proofs.Places.{IsPlace, place-kept, with_queues-is}
@@ -138,15 +139,15 @@ row_by cycle posted true h = (h, tt)
 row_by cycle posted false h = tt
 
 -- what one act adds has 64 bytes
-row_one : (cycle : ℕ) (p : Proc) (act : Act) (answer : ActAnswer) → IsPostOfRow act → AllByRecursion HasRow (map posted_of (accepted_one cycle p act answer))
-row_one cycle p (Post q desc packet) Accepted h = row_by cycle (desc, packet) (same_proc q p) h
+row_one : (cycle : ℕ) (p : Proc) (act : Act) (answer : ActAnswer) → IsAct act → AllByRecursion HasRow (map posted_of (accepted_one cycle p act answer))
+row_one cycle p (Post q desc packet) Accepted h = row_by cycle (desc, packet) (same_proc q p) h.row
 row_one cycle p (Post q desc packet) PostFull h = tt
 row_one cycle p (Post q desc packet) (Got d) h = tt
 row_one cycle p (Post q desc packet) Nothing h = tt
 row_one cycle p (Read q) answer h = tt
 
 -- each has 64 bytes, where each post of the acts has
-pub accepted-rows : (cycle : ℕ) (p : Proc) (acts : List Act) (answers : List ActAnswer) → AllByRecursion IsPostOfRow acts → AllByRecursion HasRow (map posted_of (accepted_among cycle p acts answers))
+pub accepted-rows : (cycle : ℕ) (p : Proc) (acts : List Act) (answers : List ActAnswer) → AllByRecursion IsAct acts → AllByRecursion HasRow (map posted_of (accepted_among cycle p acts answers))
 accepted-rows cycle p [] answers h = tt
 accepted-rows cycle p (act ∷ acts) [] h = tt
 accepted-rows cycle p (act ∷ acts) (answer ∷ answers) h =

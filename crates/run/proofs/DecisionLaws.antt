@@ -165,28 +165,6 @@ IfExchange P Idle = Unit {0}
 IfExchange P (Discard vid desc number admitted waited) = Unit {0}
 IfExchange P (Exchange service) = P service
 
--- by whether it is discarded
-done_serves : (table : TableValue) (pattern : Pattern) (now : ℕ) (r : Request) (reason : Option ℕ) → IsRequest table pattern r → IfExchange (Serves table pattern) (done_with now r reason)
-done_serves table pattern now r (Some number) is = tt
-done_serves table pattern now r None is = record { group = is.group; named = is.named; voted = is.voted; admitted = ap (λ flags. flags.holds) is.flags }
-
--- by whether there is a request
-decided_serves : (table : TableValue) (pattern : Pattern) (now : ℕ) (o : Option Request) → IfRequest (IsRequest table pattern) o → IfExchange (Serves table pattern) (decided table now o)
-decided_serves table pattern now None is = tt
-decided_serves table pattern now (Some r) is = done_serves table pattern now r (discard_reason table r) is
-
--- an exchange serves the request that is voted in its group, and admits those that hold it
-pub decision_serves : (table : TableValue) (pattern : Pattern) (now : ℕ) (board : Scoreboard)
-    → IfExchange (Serves table pattern) (scoreboard_decision table now (voted_flags table pattern) board)
-unfolding decision_of
-decision_serves table pattern now board =
-    let flags = voted_flags table pattern in
-    let after = marked table flags now board in
-    decided_serves table pattern now (oldest (eligible_requests table flags after now))
-    (oldest_has (IsRequest table pattern) (eligible_requests table flags after now)
-    (all-filter (IsRequest table pattern) (is_eligible table flags after now) (waiting_requests table flags after)
-    (all_filter_map (IsRequest table pattern) (request_in flags after) table.groups (request_fits table pattern now board))))
-
 -- what holds of the service of an exchange, and of a discard as if it were one
 abbrev pub IfTaken : (Service → Type 0) → Decision → Type 0
 IfTaken P Idle = Unit {0}
@@ -203,7 +181,7 @@ decided_takes : (table : TableValue) (pattern : Pattern) (now : ℕ) (o : Option
 decided_takes table pattern now None is = tt
 decided_takes table pattern now (Some r) is = done_takes table pattern now r (discard_reason table r) is
 
--- a discard, too, takes the request that is voted, and admits those that hold it
+-- a decision takes the request that is voted in its group, and admits those that hold it
 pub decision_takes : (table : TableValue) (pattern : Pattern) (now : ℕ) (board : Scoreboard)
     → IfTaken (Serves table pattern) (scoreboard_decision table now (voted_flags table pattern) board)
 unfolding decision_of
@@ -214,3 +192,15 @@ decision_takes table pattern now board =
     (oldest_has (IsRequest table pattern) (eligible_requests table flags after now)
     (all-filter (IsRequest table pattern) (is_eligible table flags after now) (waiting_requests table flags after)
     (all_filter_map (IsRequest table pattern) (request_in flags after) table.groups (request_fits table pattern now board))))
+
+-- what holds of both holds of an exchange
+of_exchange : (P : Service → Type 0) (decision : Decision) → IfTaken P decision → IfExchange P decision
+of_exchange P Idle is = tt
+of_exchange P (Discard vid desc number admitted waited) is = tt
+of_exchange P (Exchange service) is = is
+
+-- an exchange serves the request that is voted in its group, and admits those that hold it
+pub decision_serves : (table : TableValue) (pattern : Pattern) (now : ℕ) (board : Scoreboard)
+    → IfExchange (Serves table pattern) (scoreboard_decision table now (voted_flags table pattern) board)
+decision_serves table pattern now board =
+    of_exchange (Serves table pattern) (scoreboard_decision table now (voted_flags table pattern) board) (decision_takes table pattern now board)

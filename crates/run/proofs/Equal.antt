@@ -1,7 +1,7 @@
 -- The entries of an exchange that is not split are equal at all fault-free elements: by its kind, by its members, or by the packet that is held alike.
-use Rattle.std.proofs.Common.{◌≡◌, ℕ, ◌<◌, Bool, true, false, refl, ap, sym, ◌∙◌, ◌⊎◌, inl, inr}
-use Rattle.std.specs.Prelude.{Option, Some, None, is_none, ◌&&◌}
-use Rattle.std.proofs.lemmas.Bool.{and_parts}
+use Rattle.std.proofs.Common.{◌≡◌, ◌≢◌, ℕ, ◌<◌, Bool, true, false, cond, refl, subst, ap, sym, ◌∙◌, ◌⊎◌, inl, inr}
+use Rattle.std.specs.Prelude.{Option, Some, None, is_none, nat_le, nat_lt, ◌==◌, ◌&&◌}
+use Rattle.std.proofs.lemmas.Bool.{and_parts, eq-eqb, ne_eqb, lt-leb}
 use Rattle.ftpp_base.specs.Lists.{cell_at, is_this}
 use Rattle.ftpp_base.specs.Sets.{has}
 use Rattle.ftpp_base.specs.declared.element.Proc.{Proc}
@@ -15,16 +15,25 @@ use Rattle.config_table.specs.declared.decisions.Kind.{Kind}
 use Rattle.config_table.specs.declared.decisions.Kind.TheVariants.{Voted, Source, Every}
 use Rattle.config_table.specs.declared.decisions.Decision.TheVariants.{Exchange}
 use Rattle.config_table.specs.declared.decisions.Service.{Service}
-use Rattle.config_table.specs.Table.{TableValue, group_named}
+use Rattle.config_table.specs.Groups.{live_count}
+use Rattle.config_table.specs.Table.{TableValue, IsValid, group_named}
+use Rattle.flag_vote.specs.Flags.{voted_flags}
+use Rattle.scoreboard.specs.Choice.{kind_of, discard_reason}
+use Rattle.scoreboard.specs.Service.{takes_of}
+use Rattle.packet_format.specs.declared.Descriptor.{Descriptor}
 use Rattle.processor_buffers.specs.Queues.{Posted}
 use Rattle.data_exchange.specs.Entries.{may_send, members_vote, entry_by, entry_at, packet_in, is_voted, held_alike, includes}
 use Rattle.data_exchange.proofs.EntryLaws.{entry-same, members_vote-same}
 use Rattle.run.specs.Processors.{head_at}
 use Rattle.run.specs.Cycle.{State, Input, entry_in, step, shown_by}
 use Rattle.run.specs.Alone.{IsSound, IsInput, before_rounds}
-use Rattle.run.specs.Laws.{AlwaysEqualEntries, is_source}
+use Rattle.run.specs.Claims.{is_source}
+use Rattle.run.specs.Laws.{AlwaysEqualEntries, NeverSplit}
+use Rattle.run.proofs.DecisionLaws.{HasVid, HasVid-named}
+use Rattle.run.proofs.Chosen.{request_for, takes-chosen}
+use Rattle.run.proofs.SkewTaken.{service_for, done_exchange}
 use Rattle.run.proofs.Sound.{before_sound}
-use Rattle.run.proofs.AloneLaws.{decision_in, packets_in, entries_in}
+use Rattle.run.proofs.AloneLaws.{decision_in, pattern_in, packets_in, entries_in}
 use Rattle.bit_vote.proofs.Copies.{copy-fine}
 use Rattle.run.proofs.HeldAlike.{entry_alike}
 
@@ -114,3 +123,54 @@ equal_entries s input sound is service g one other decided named l m good fine s
     ∙ ap packet_in (entries_by t input service g one other here is decided named
     (whole_by (is_voted service.kind) (includes service.admitted input.faulty) (is_none (held_alike input.faulty (head_at t.queues) g)) split))
     ∙ sym (entry_there t input service other m decided)
+
+-- ---- exchanges that are never split
+
+-- a kind is of one round only for class 1 and three live members
+few_kind : (one three two : Bool) (source : ℕ) → (one ≡ false) ⊎ (three ≡ false) → is_voted (cond (one && three) Voted (cond two (Source source) Every)) ≡ false
+few_kind true true two source (inl e) = cc
+few_kind true true two source (inr e) = cc
+few_kind true false true source e = refl
+few_kind true false false source e = refl
+few_kind false three true source e = refl
+few_kind false three false source e = refl
+
+-- what makes a kind of two rounds, as tests
+few_tests : (class count : ℕ) → (class ≢ 1) ⊎ (count < 3) → ((class == 1) ≡ false) ⊎ (nat_le 3 count ≡ false)
+few_tests class count (inl away) = inl (ne_eqb class 1 away)
+few_tests class count (inr few) = inr (lt-leb 3 count few)
+
+-- a request of another class, or of few members, is carried in two rounds
+few_rounds : (g : Group) (desc : Descriptor) → (desc.class ≢ 1) ⊎ (live_count g < 3) → is_voted (kind_of g desc) ≡ false
+unfolding kind_of
+few_rounds g desc few = few_kind (desc.class == 1) (nat_le 3 (live_count g)) (desc.class == 2) _ (few_tests desc.class (live_count g) few)
+
+-- an exchange is of the kind that its group and its request have
+kind_served : (t : State) (input : Input) (service : Service) (g : Group) → IsValid t.table → decision_in t input ≡ Exchange service → group_named t.table service.vid ≡ Some g
+    → service.kind ≡ kind_of g service.desc
+kind_served t input service g valid decided named =
+    let vid : g.vid ≡ service.vid = subst (HasVid service.vid) named (HasVid-named t.table service.vid) in
+    let taken : takes_of g.vid (decision_in t input) ≡ true = ap (takes_of g.vid) decided ∙ eq-eqb service.vid g.vid (sym vid) in
+    let chosen = takes-chosen t.table (pattern_in t input) t.cycle t.scoreboard g valid (ap (group_named t.table) vid ∙ named) taken in
+    let request = request_for (pattern_in t input) g chosen.waiting in
+    let done = done_exchange t.cycle request (discard_reason t.table request) service (sym chosen.done ∙ decided) in
+    ap (λ (x : Service). x.kind) (sym done.1) ∙ ap (kind_of g) (ap (λ (x : Service). x.desc) done.1)
+
+-- what is not voted in one round is not split
+not_split : (voted rest : Bool) → voted ≡ false → (voted && rest) ≡ false
+not_split true rest e = cc
+not_split false rest e = refl
+
+-- An exchange of class 2 or 3, or of few live members, is not split, and has one entry everywhere.
+pub never_split : NeverSplit
+unfolding step shown_by
+never_split s input sound is service g decided named few =
+    let t = before_rounds s input in
+    let here = before_sound s input sound is.acts in
+    let two : is_voted service.kind ≡ false = ap is_voted (kind_served t input service g here.valid decided named) ∙ few_rounds g service.desc few in (
+      not_split (is_voted service.kind) _ two,
+      λ one other l m.
+          entry_there t input service one l decided
+          ∙ ap packet_in (entry-same t.table service (packets_in t input) one other two)
+          ∙ sym (entry_there t input service other m decided),
+    )

@@ -22,7 +22,7 @@ use Rattle.data_exchange.specs.Entries.{entry_by, entry_at, fault_free_members, 
 use Rattle.run.specs.Processors.{head_at}
 use Rattle.run.specs.Cycle.{State, Input, packet_round}
 use Rattle.run.specs.Alone.{IsSound, IsInput}
-use Rattle.run.specs.Laws.{is_source}
+use Rattle.run.specs.Claims.{is_source}
 use Rattle.run.proofs.Accepted.{HasRow}
 use Rattle.data_exchange.proofs.AlikeEntry.{IsAlike, entry-alike}
 use Rattle.run.proofs.AloneLaws.{pattern_in, decision_in, packets_in, size_of}

@@ -33,7 +33,8 @@ use Rattle.run.specs.Syndromes.{accused_where, copies_by, relayed_copies, stands
 use Rattle.scoreboard.specs.Service.{takes_of}
 use Rattle.run.specs.Noted.{absent_ones}
 use Rattle.run.specs.Alone.{IsSound, IsInput, before_rounds}
-use Rattle.run.specs.Laws.{is_source, is_of_members, AlwaysAccurateAlike}
+use Rattle.run.specs.Claims.{is_source, is_of_members}
+use Rattle.run.specs.Laws.{AlwaysAccurateAlike}
 use Rattle.run.proofs.AloneNotes.{absent-same}
 use Rattle.ftpp_base.proofs.Among.{all-append, find-passes, contains-filter}
 use Rattle.run.proofs.Accuracy.{all_flat, kept_all, all_kept}

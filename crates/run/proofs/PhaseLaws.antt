@@ -11,7 +11,7 @@ use Rattle.table_update.specs.Updates.{applied}
 use Rattle.run.specs.Cycle.{update_in, update_outcome}
 use Rattle.run.specs.Element.{Kept, Heard, Made, echoes_of, settled, own_packet, own_entry, own_service, own_delivery, own_handed, own_update, kept_by, kept_with, made, kept_after}
 use Rattle.run.specs.Noted.{own_pattern, decided_by}
-use Rattle.run.specs.Phases.{LooksBack, HeardByRounds}
+use Rattle.run.specs.Phases.{LooksBack, HeardByRounds, EachPartMade}
 use Rattle.run.proofs.Sound.{size-table_after}
 
 -- The frame of a round does not look at what is heard in that round or later.
@@ -39,40 +39,10 @@ heard_by_rounds heard n carried me = refl
 
 -- ---- what it makes, part by part
 
--- its echoes of the patterns, and the pattern
-pub made-patterns : (kept : Kept) (heard : Heard) → (made kept heard).patterns ≡ echoes_of kept.me (own_pattern kept) heard.patterns heard.relayed_patterns
+-- each part by the parts before it
+pub each_part_made : EachPartMade
 unfolding made
-made-patterns kept heard = refl
-
--- the pattern
-pub made-pattern : (kept : Kept) (heard : Heard) → (made kept heard).pattern ≡ settled kept.table.n (made kept heard).patterns
-unfolding made
-made-pattern kept heard = refl
-
--- the decision
-pub made-decision : (kept : Kept) (heard : Heard) → (made kept heard).decision ≡ decided_by kept heard.patterns heard.relayed_patterns
-unfolding made
-made-decision kept heard = refl
-
--- its echoes of the packets, and the entry
-pub made-packets : (kept : Kept) (heard : Heard) → (made kept heard).packets ≡ echoes_of kept.me (own_packet kept (made kept heard).decision) heard.packets heard.relayed_packets
-unfolding made
-made-packets kept heard = refl
-
--- the entry
-pub made-entry : (kept : Kept) (heard : Heard) → (made kept heard).entry ≡ own_entry kept.table (made kept heard).decision (made kept heard).packets
-unfolding made
-made-entry kept heard = refl
-
--- the delivery, and what became of an update
-pub made-handed : (kept : Kept) (heard : Heard) → (made kept heard).handed ≡ own_handed kept (made kept heard).decision (made kept heard).entry (own_service kept (made kept heard).decision)
-unfolding made
-made-handed kept heard = refl
-
--- what became of an update
-pub made-update : (kept : Kept) (heard : Heard) → (made kept heard).update ≡ update_outcome kept.table (own_update kept.table (made kept heard).decision (made kept heard).packets)
-unfolding made
-made-update kept heard = refl
+each_part_made kept heard = record { patterns = refl; pattern = refl; decision = refl; packets = refl; entry = refl; handed = refl; update = refl }
 
 -- what it keeps
 pub kept_after-parts : (kept : Kept) (m : Made) → kept_after kept m ≡ kept_with (update_in (own_update kept.table m.decision m.packets)) (record {

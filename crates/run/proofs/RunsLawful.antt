@@ -10,7 +10,7 @@ use Rattle.run.specs.Laws.{RunsStaySound, EachCycleLawful}
 use Rattle.run.proofs.RunLaws.{state_at-suc}
 use Rattle.run.proofs.Sound.{start_sound, step_sound, step_size}
 use Rattle.run.proofs.Accuracy.{always_accurate}
-use Rattle.run.proofs.Equal.{equal_entries}
+use Rattle.run.proofs.Equal.{equal_entries, never_split}
 use Rattle.run.proofs.Members.{always_accurate_alike}
 use Rattle.run.proofs.Overruns.{only_full}
 use Rattle.run.proofs.Sourced.{always_sourced}
@@ -58,6 +58,7 @@ each_cycle_lawful table journal k valid are l =
     record {
       accurate = always_accurate s input;
       equal = equal_entries s input at.0 at.1;
+      whole = never_split s input at.0 at.1;
       alike = always_accurate_alike s input at.0 at.1;
       unchanged = always_unchanged s input at.0 at.1;
       sourced = always_sourced s input at.0 at.1;

@@ -2,11 +2,11 @@
 use Rattle.std.proofs.Common.{◌≡◌, ℕ, zero, suc, ◌+◌, ◌<◌, ◌≤◌, Bool, true, false, cond, List, [], ◌++◌, length, map, drop, refl, ap, arith, sym, ◌∙◌, subst, Contains, Option, Some, None, option_map, slice_get, All, unwrap_or, IsSomeAnd, ◌⊎◌}
 use Rattle.std.specs.List.{AllByRecursion}
 use Rattle.std.proofs.lemmas.List.{map-append, drop-append-le, length-append, get_or-replicate, length-replicate}
-use Rattle.std.proofs.lemmas.List.Elements.{recursion_from_All}
+use Rattle.std.proofs.lemmas.List.Elements.{All-from_recursion}
 use Rattle.ftpp_base.specs.Lists.{is_this, cell_at}
 use Rattle.ftpp_base.specs.declared.element.Proc.{Proc}
 use Rattle.packet_format.specs.declared.Packet.{Packet}
-use Rattle.bit_vote.specs.Vote.{IsCell}
+use Rattle.bit_vote.specs.Vote.{Cell, IsCell}
 use Rattle.bit_vote.proofs.Majority.{AreCells}
 use Rattle.local_pattern.specs.Pattern.{entry_of}
 use Rattle.config_table.specs.declared.groups.Group.{Group}
@@ -21,7 +21,8 @@ use Rattle.data_exchange.specs.Entries.{fault_free_members, held_alike}
 use Rattle.run.specs.Processors.{AllQueues, queues_of, ports_of, port_queues, answers_to, empty_queues, empty_ports, head_at}
 use Rattle.run.specs.Cycle.{State, Input, Shown, served, state_after, update_in, update_packet, group_changed}
 use Rattle.run.specs.Run.{Journal, IsJournal, run, state_at, input_at, shown_at, no_input}
-use Rattle.run.specs.Premises.{IsSkewAlike, IsShaped, IsPostOfRow, accepted_among, posted_of}
+use Rattle.run.specs.Alone.{IsInput}
+use Rattle.run.specs.Premises.{IsSkewAlike, accepted_among, posted_of}
 use Rattle.scoreboard.specs.Service.{takes_of}
 use Rattle.run.specs.Claims.{times_taken, TakesPost, NothingLost, NoLossWithinSkew, IsPastExpiry}
 use Rattle.run.proofs.RunLaws.{state_at-suc}
@@ -80,10 +81,19 @@ served_table : (s : State) (shown : Shown) → (served s shown).table ≡ s.tabl
 unfolding served
 served_table s shown = refl
 
+-- all cells of a list, where each at its place is one
+cells_here : (wide : ℕ) (cells : List Cell) → ((s : ℕ) → IsCell wide (cell_at cells s)) → AllByRecursion (IsCell wide) cells
+cells_here wide [] here = tt
+cells_here wide (cell ∷ cells) here = (here 0, cells_here wide cells (λ s. here (suc s)))
+
 -- ---- the premises of a run
 
-module _ (table : TableValue) (journal : Journal) (faulty : Option ℕ) (g : Group) (begins : IsValid table) (follows : IsJournal faulty journal) (shaped : All IsShaped journal)
+module _ (table : TableValue) (journal : Journal) (faulty : Option ℕ) (g : Group) (begins : IsValid table) (follows : IsJournal faulty journal) (are : AllByRecursion (IsInput table.n) journal)
     (skew : IsSkewAlike table journal faulty g) where
+  -- what comes from outside in each cycle is in shape
+  inputs_at : (t : ℕ) → t < length journal → IsInput table.n (input_at journal t)
+  inputs_at t l = All-from_recursion (IsInput table.n) journal are t no_input l
+
   -- no rejoin was taken before a cycle
   calm_at : (t : ℕ) → t < length journal → (input_at journal t).rejoined ≡ None
   calm_at t l = skew.no_rejoin t no_input l
@@ -187,7 +197,7 @@ module _ (table : TableValue) (journal : Journal) (faulty : Option ℕ) (g : Gro
             subst (λ (all : AllQueues). HasRows (queues_of all p)) (sym f.queues)
             (subst (AllByRecursion HasRow) (sym (acts-output s.table s.cycle s.queues p input.acts (k.stands.places p m)))
             (all-append HasRow (output_of s.queues p) (map posted_of (accepted_among s.cycle p input.acts (answers_to s.table s.queues input.acts))) (k.stands.rows p m)
-            (accepted-rows s.cycle p input.acts (answers_to s.table s.queues input.acts) (recursion_from_All IsPostOfRow input.acts (shaped t no_input l).posts))));
+            (accepted-rows s.cycle p input.acts (answers_to s.table s.queues input.acts) (inputs_at t l).acts)));
         decision = f.decision;
       }
 
@@ -261,7 +271,7 @@ module _ (table : TableValue) (journal : Journal) (faulty : Option ℕ) (g : Gro
       let f = fields_at t l in
       let b = before_at t c l k in
       let taken = before-taken s shown faulty g (posts_before table journal (suc t)) c b e in
-      let cells : AreCells 64 (input_at journal t).packets = cells-from 64 (input_at journal t).packets (recursion_from_All (IsCell 64) (input_at journal t).packets (shaped t no_input l).packets) in
+      let cells : AreCells 64 (input_at journal t).packets = cells-from 64 (input_at journal t).packets (cells_here 64 (input_at journal t).packets (inputs_at t l).packet_cells) in
       record {
         posted = taken.posted;
         held = ap (λ (o : Option ℕ). held_alike o (head_at shown.queues) g) (f.faulty ∙ faulty_at t l)
@@ -290,4 +300,4 @@ module _ (table : TableValue) (journal : Journal) (faulty : Option ℕ) (g : Gro
 
 -- nothing is lost within the skew
 pub no-loss : NoLossWithinSkew
-no-loss table journal faulty g valid follows shaped skew = nothing-lost table journal faulty g valid follows shaped skew
+no-loss table journal faulty g valid follows are skew = nothing-lost table journal faulty g valid follows are skew

@@ -8,7 +8,7 @@ use Rattle.run.specs.Element.{Kept}
 use Rattle.run.specs.Noted.{cells_made}
 use Rattle.run.specs.Alone.{IsSound, IsInput, HoldsItsPart, part_of, before_rounds}
 use Rattle.run.specs.AloneRun.{acts_at, begun}
-use Rattle.run.specs.Together.{Carried, frames_by, heard_of, said_to, IsCarried, elements_before, elements_next, elements_after, AreCarried, HoldTogether, RunsTogether, EndTogether}
+use Rattle.run.specs.Together.{Carried, frames_by, heard_of, said_to, IsCarried, elements_before, elements_next, elements_after, AreCarried, HoldTogether, RunsTogether, EndTogether, agreed_by, NeverDiffer}
 use Rattle.run.proofs.Sound.{start_sound, step_sound, step_size}
 use Rattle.run.proofs.AloneRunLaws.{each_begins_alone}
 use Rattle.run.proofs.Together.{together}
@@ -82,3 +82,8 @@ pub end_together : EndTogether
 unfolding run
 end_together table journal carrieds me valid are c l =
     end_parts table.n (start table) (part_of (start table)) journal carrieds me l (runs_together table journal carrieds valid are c)
+
+-- So what they agree on never differs.
+pub never_differ : NeverDiffer
+never_differ table journal carrieds one other valid are c l m =
+    ap agreed_by (end_together table journal carrieds one valid are c l) ∙ sym (ap agreed_by (end_together table journal carrieds other valid are c m))

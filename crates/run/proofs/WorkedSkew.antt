@@ -13,12 +13,13 @@ use Rattle.processor_buffers.specs.Queues.{Posted}
 use Rattle.data_exchange.specs.Entries.{fault_free_members}
 use Rattle.run.specs.Cycle.{Input, Shown, start}
 use Rattle.run.specs.Run.{Journal, history, shown_at}
-use Rattle.run.specs.Premises.{IsShaped, IsPostOfRow, IsSkewAlike, PostAlike, accepted_from}
+use Rattle.run.specs.Alone.{IsPosted, IsAct, IsInput}
+use Rattle.run.specs.Premises.{IsSkewAlike, PostAlike, accepted_from}
 use Rattle.scoreboard.specs.Service.{takes_of}
 use Rattle.run.specs.Claims.{TakesPost, times_taken}
 use Rattle.run.proofs.WorkedParts.{worked, proc, four_elements, four_elements_valid, packet_41, to_three}
 use Rattle.run.proofs.WorkedParts.{worked, second_group as triplex}
-use Rattle.ftpp_base.proofs.Among.{one_of}
+use Rattle.ftpp_base.proofs.Among.{one_of, all-get_or, all-replicate}
 use Rattle.run.proofs.SkewRun.{no-loss}
 
 -- a column whose port 1 has that request at its head, with room at all ports
@@ -49,13 +50,32 @@ low_at (x ∷ xs) e (suc k) = low_at xs (and_parts (nat_lt x 256) (list_all (λ 
 pub row_41 : IsRow 64 packet_41.bytes
 row_41 = record { long = refl; bytes = low_at packet_41.bytes refl }
 
--- such a cycle is in shape
-shaped_by : (acts : List Act) → AllByRecursion IsPostOfRow acts → IsShaped (beside acts)
-shaped_by acts h = record { posts = All-from_recursion IsPostOfRow acts h; packets = All-from_recursion (IsCell 64) (beside acts).packets (tt, (tt, (tt, (tt, tt)))) }
+-- what the faulty element shows has 32 bytes
+row_shown : IsRow 32 shown_bytes
+row_shown = record { long = refl; bytes = low_at shown_bytes refl }
 
--- so the journal is
-in_shape : All IsShaped late_second
-in_shape = All-from_recursion IsShaped late_second (shaped_by (Post (proc 0 1) to_three packet_41 ∷ []) (row_41, tt), (shaped_by [] tt, (shaped_by (Post (proc 1 1) to_three packet_41 ∷ []) (row_41, tt), tt)))
+-- a whole packet
+whole : IsPosted (to_three, packet_41)
+whole = record { dest = omega arith; class = omega arith; source = omega arith; row = row_41 }
+
+-- the faulty element is one of four
+is_there : (ne : ℕ) → Some 2 ≡ Some ne → ne < 4
+is_there ne e = let same : 2 ≡ ne = cc in omega arith
+
+-- such a cycle is in shape
+input_by : (acts : List Act) → AllByRecursion IsAct acts → IsInput 4 (beside acts)
+input_by acts h = record {
+  faulty = is_there;
+  acts = h;
+  patterns = refl;
+  packets = refl;
+  pattern_cells = λ s. all-get_or (IsCell 32) (replicate 4 shows_it) s None (all-replicate (IsCell 32) 4 shows_it row_shown) tt;
+  packet_cells = λ s. all-get_or (IsCell 64) (replicate 4 None) s None (all-replicate (IsCell 64) 4 None tt) tt;
+}
+
+-- so the journal is in shape
+pub in_shape : AllByRecursion (IsInput 4) late_second
+in_shape = (input_by (Post (proc 0 1) to_three packet_41 ∷ []) (whole, tt), (input_by [] tt, (input_by (Post (proc 1 1) to_three packet_41 ∷ []) (whole, tt), tt)))
 
 -- two lists of one post, the same and at most some cycles apart
 one_alike : (cycles apart x y : ℕ) (posted : Posted) → x ≤ y + apart → y ≤ x + apart → PostAlike cycles apart ((x, posted) ∷ []) ((y, posted) ∷ [])

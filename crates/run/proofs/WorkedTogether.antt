@@ -14,38 +14,11 @@ use Rattle.run.proofs.SentTaken.{some_is_carried}
 use Rattle.run.proofs.Sound.{start_sound}
 use Rattle.run.proofs.Together.{together}
 use Rattle.run.proofs.WorkedParts.{proc, four_elements, four_elements_valid, packet_41, to_three}
-use Rattle.run.proofs.WorkedSkew.{shown_bytes, shows_it, beside, late_second, low_at, row_41}
-
--- what the faulty element shows has 32 bytes
-row_shown : IsRow 32 shown_bytes
-row_shown = record { long = refl; bytes = low_at shown_bytes refl }
-
--- a whole packet
-whole : IsPosted (to_three, packet_41)
-whole = record { dest = omega arith; class = omega arith; source = omega arith; row = row_41 }
-
--- the faulty element is one of four
-is_there : (ne : ℕ) → Some 2 ≡ Some ne → ne < 4
-is_there ne e = let same : 2 ≡ ne = cc in omega arith
-
--- such a cycle is in shape
-input_by : (acts : List Act) → AllByRecursion IsAct acts → IsInput 4 (beside acts)
-input_by acts h = record {
-  faulty = is_there;
-  acts = h;
-  patterns = refl;
-  packets = refl;
-  pattern_cells = λ s. all-get_or (IsCell 32) (replicate 4 shows_it) s None (all-replicate (IsCell 32) 4 shows_it row_shown) tt;
-  packet_cells = λ s. all-get_or (IsCell 64) (replicate 4 None) s None (all-replicate (IsCell 64) 4 None tt) tt;
-}
+use Rattle.run.proofs.WorkedSkew.{beside, late_second, in_shape}
 
 -- the first cycle
 abbrev first : Input
 first = beside (Post (proc 0 1) to_three packet_41 ∷ [])
-
--- so the journal is in shape
-in_shape : AllByRecursion (IsInput 4) late_second
-in_shape = (input_by (Post (proc 0 1) to_three packet_41 ∷ []) (whole, tt), (input_by [] tt, (input_by (Post (proc 1 1) to_three packet_41 ∷ []) (whole, tt), tt)))
 
 -- its third cycle is lawful
 pub third_lawful : IsLawfulCycle four_elements late_second 2

@@ -1,5 +1,6 @@
 -- What is claimed of every run: statements, each a type.
-use Rattle.std.specs.Prelude.{◌≡◌, ℕ, ◌+◌, ◌<◌, ◌≤◌, ◌⊎◌, Bool, true, false, List, length, slice_get, filter, Option, Some, None, option_map, map, take, drop, MatchOption, All, Contains}
+use Rattle.std.specs.Prelude.{◌≡◌, ◌≢◌, ℕ, ◌+◌, ◌<◌, ◌≤◌, ◌⊎◌, Bool, true, false, List, length, slice_get, filter, Option, Some, None, option_map, map, take, drop, MatchOption, All, Contains}
+use Rattle.std.specs.List.{AllByRecursion}
 use Rattle.ftpp_base.specs.Lists.{is_this, cell_at}
 use Rattle.ftpp_base.specs.Sets.{has}
 use Rattle.ftpp_base.specs.declared.element.Proc.{Proc}
@@ -12,6 +13,7 @@ use Rattle.config_table.specs.declared.decisions.Kind.{Kind}
 use Rattle.config_table.specs.declared.decisions.Kind.TheVariants.{Voted, Source, Every}
 use Rattle.config_table.specs.declared.decisions.Decision.{Decision}
 use Rattle.config_table.specs.declared.decisions.Decision.TheVariants.{Idle, Discard, Exchange}
+use Rattle.config_table.specs.Groups.{live_count}
 use Rattle.config_table.specs.Table.{TableValue, group_named, in_limit, IsValid}
 use Rattle.scoreboard.specs.Board.{Scoreboard, lag_of, starved_of, marked}
 use Rattle.flag_vote.specs.Flags.{voted_flags}
@@ -19,29 +21,17 @@ use Rattle.scoreboard.specs.Choice.{reason}
 use Rattle.scoreboard.specs.Service.{takes_of, Serves, longest_wait}
 use Rattle.processor_buffers.specs.Queues.{Posted}
 use Rattle.processor_buffers.specs.declared.Handed.TheVariants.{Overrun}
-use Rattle.data_exchange.specs.Entries.{fault_free_members}
+use Rattle.data_exchange.specs.Entries.{fault_free_members, senders, member_at}
 use Rattle.syndrome_log.specs.declared.SyndromeKind.{SyndromeKind}
 use Rattle.syndrome_log.specs.declared.SyndromeKind.TheVariants as kind
-use Rattle.run.specs.Processors.{queues_of}
+use Rattle.run.specs.Processors.{queues_of, head_at}
 use Rattle.run.specs.Cycle.{State, Shown, start}
 use Rattle.run.specs.Run.{Journal, IsJournal, history, shown_at, state_at}
 use Rattle.run.specs.Syndromes.{Relays, syndromes_at}
-use Rattle.run.specs.Premises.{held_alike_in, is_split_in, KeepsSpaceFor, accepted_from, posted_of, IsShaped, IsSkewAlike}
+use Rattle.run.specs.Alone.{IsInput}
+use Rattle.run.specs.Premises.{held_alike_in, is_split_in, KeepsSpaceFor, accepted_from, posted_of, IsSkewAlike}
 
--- A lawful request that is held alike in a cycle is served within its longest wait, while its receiver keeps space.
-abbrev pub ServiceBound : TableValue → Journal → Type 0
-ServiceBound table journal = (t : ℕ) (g : Group) (head : Posted)
-    → t < length journal
-    → group_named (shown_at table journal t).table g.vid ≡ Some g
-    → held_alike_in (shown_at table journal t) g ≡ Some head
-    → reason (shown_at table journal t).table g head.0 ≡ None
-    → t + longest_wait (shown_at table journal t).table g head.0 ≤ length journal
-    → ((u : ℕ) → t ≤ u → u < length journal → ((k : ℕ) → t ≤ k → k < u → Serves (shown_at table journal k).decision g.vid head.0 → ⊥) → KeepsSpaceFor table journal head.0 t u)
-    → (k : ℕ) × (t ≤ k) × (k < t + longest_wait (shown_at table journal t).table g head.0) × Serves (shown_at table journal k).decision g.vid head.0
-
--- Every run serves in time: from every valid table, and over every journal in which the faulty element changes only where it rejoins.
-abbrev pub RunsServeInTime : Type 0
-RunsServeInTime = (table : TableValue) (first : Option ℕ) (journal : Journal) → IsValid table → IsJournal first journal → ServiceBound table journal
+-- ---- of each cycle
 
 -- The entries of an exchange are equal at all fault-free elements unless it is split.
 abbrev pub EqualEntries : Shown → Type 0
@@ -74,6 +64,76 @@ is_of_copies kind.V = false
 abbrev pub IsAccurate : Shown → Type 0
 IsAccurate shown = (said : Relays) (me : ℕ) → me < shown.table.n → is_this shown.patterns.faulty me ≡ false
     → All (λ s. is_of_copies s.kind ≡ true → (shown.patterns.faulty ≡ Some s.accused) ⊎ (shown.patterns.faulty ≡ Some s.other)) (syndromes_at shown said me)
+
+-- An exchange of class 2 or 3, or of a group with fewer than three live members, is not split: its entries are equal at all elements.
+abbrev pub IsWholeEverywhere : Shown → Type 0
+IsWholeEverywhere shown = (service : Service) (g : Group)
+    → shown.decision ≡ Exchange service → group_named shown.table service.vid ≡ Some g
+    → (service.desc.class ≢ 1) ⊎ (live_count g < 3)
+    → (is_split_in shown g service ≡ false)
+    × ((one other : ℕ) → one < shown.table.n → other < shown.table.n → cell_at shown.entries one ≡ cell_at shown.entries other)
+
+-- whether one element alone sends
+abbrev pub is_source : Kind → Bool
+is_source Voted = false
+is_source (Source s) = true
+is_source Every = false
+
+-- An exchange that is held alike, and is not of one source, has the common packet as its entry at each element.
+abbrev pub IsUnchanged : Shown → Type 0
+IsUnchanged shown = (service : Service) (g : Group) (head : Posted) (me : ℕ)
+    → shown.decision ≡ Exchange service → group_named shown.table service.vid ≡ Some g
+    → held_alike_in shown g ≡ Some head → is_source service.kind ≡ false → me < shown.table.n
+    → cell_at shown.entries me ≡ Some head.1
+
+-- What an element's member has to send: it is live, and has a head.
+pub record HasHead (shown : Shown) (service : Service) (ne : ℕ) : Type 0 where
+  pub proc : Proc
+  pub live : member_at (senders shown.table service.vid) ne ≡ Some proc
+  pub head : Posted
+  pub held : head_at shown.queues proc ≡ Some head
+
+-- An exchange of one source that is fault-free and admitted has that source's head as its entry at each element.
+abbrev pub IsSourced : Shown → Type 0
+IsSourced shown = (service : Service) (source : ℕ)
+    → shown.decision ≡ Exchange service → service.kind ≡ Source source → source < shown.table.n
+    → is_this shown.packets.faulty source ≡ false → has service.admitted source ≡ true
+    → (own : HasHead shown service source) × ((me : ℕ) → me < shown.table.n → cell_at shown.entries me ≡ Some own.head.1)
+
+-- whether an entry speaks of a member of the group that is served
+abbrev pub is_of_members : SyndromeKind → Bool
+is_of_members kind.P1 = false
+is_of_members kind.P2 = false
+is_of_members kind.R = true
+is_of_members kind.O = false
+is_of_members kind.D1 = false
+is_of_members kind.D2 = false
+is_of_members kind.V = true
+
+-- Where the request that is taken is held alike, an entry of that sort at any element accuses the faulty one.
+abbrev pub IsAccurateAlike : Shown → Type 0
+IsAccurateAlike shown = (said : Relays) (me : ℕ) (g : Group) (head : Posted) → me < shown.table.n
+    → takes_of g.vid shown.decision ≡ true → group_named shown.table g.vid ≡ Some g → held_alike_in shown g ≡ Some head
+    → All (λ s. is_of_members s.kind ≡ true → shown.patterns.faulty ≡ Some s.accused) (syndromes_at shown said me)
+
+-- ---- a request is served in time
+
+-- A lawful request that is held alike in a cycle is served within its longest wait, while its receiver keeps space.
+abbrev pub ServiceBound : TableValue → Journal → Type 0
+ServiceBound table journal = (t : ℕ) (g : Group) (head : Posted)
+    → t < length journal
+    → group_named (shown_at table journal t).table g.vid ≡ Some g
+    → held_alike_in (shown_at table journal t) g ≡ Some head
+    → reason (shown_at table journal t).table g head.0 ≡ None
+    → t + longest_wait (shown_at table journal t).table g head.0 ≤ length journal
+    → ((u : ℕ) → t ≤ u → u < length journal → ((k : ℕ) → t ≤ k → k < u → Serves (shown_at table journal k).decision g.vid head.0 → ⊥) → KeepsSpaceFor table journal head.0 t u)
+    → (k : ℕ) × (t ≤ k) × (k < t + longest_wait (shown_at table journal t).table g head.0) × Serves (shown_at table journal k).decision g.vid head.0
+
+-- Every run serves in time: from every valid table, and over every journal in which the faulty element changes only where it rejoins.
+abbrev pub RunsServeInTime : Type 0
+RunsServeInTime = (table : TableValue) (first : Option ℕ) (journal : Journal) → IsValid table → IsJournal first journal → ServiceBound table journal
+
+-- ---- order of a group's requests in a run
 
 -- whether a cycle takes a request of a group
 abbrev pub is_service : ℕ → Shown → Bool
@@ -146,4 +206,4 @@ pub record NothingLost (table : TableValue) (journal : Journal) (faulty : Option
 -- No loss within the skew: in every run over a journal in shape from a valid table, of every group that posts alike.
 abbrev pub NoLossWithinSkew : Type 0
 NoLossWithinSkew = (table : TableValue) (journal : Journal) (faulty : Option ℕ) (g : Group)
-    → IsValid table → IsJournal faulty journal → All IsShaped journal → IsSkewAlike table journal faulty g → NothingLost table journal faulty g
+    → IsValid table → IsJournal faulty journal → AllByRecursion (IsInput table.n) journal → IsSkewAlike table journal faulty g → NothingLost table journal faulty g

@@ -20,7 +20,7 @@ use Rattle.run.specs.Premises.{held_alike_in}
 use Rattle.run.specs.Cycle.{State, Input, Shown, step}
 use Rattle.run.specs.Run.{Journal, run, state_at, shown_at}
 use Rattle.scoreboard.specs.Service.{takes_of}
-use Rattle.run.specs.Claims.{EqualEntries, OnlyFullOverruns, IsAccurate}
+use Rattle.run.specs.Claims.{IsAccurate, IsAccurateAlike, EqualEntries, IsWholeEverywhere, IsUnchanged, IsSourced, OnlyFullOverruns}
 use Rattle.run.specs.Alone.{IsSound, IsInput}
 
 -- each entry on copies that a fault-free element notes names the faulty one
@@ -31,66 +31,23 @@ AlwaysAccurate = (s : State) (input : Input) → IsAccurate (step s input).shown
 abbrev pub AlwaysEqualEntries : Type 0
 AlwaysEqualEntries = (s : State) (input : Input) → IsSound s → IsInput s.table.n input → EqualEntries (step s input).shown
 
+-- an exchange of class 2 or 3, or of fewer than three live members, is never split
+abbrev pub NeverSplit : Type 0
+NeverSplit = (s : State) (input : Input) → IsSound s → IsInput s.table.n input → IsWholeEverywhere (step s input).shown
+
 -- an overrun at a fault-free element comes only where the input was full, and the member lags by more than its timeout
 abbrev pub OverrunsOnlyFull : Type 0
 OverrunsOnlyFull = (s : State) (input : Input) → IsSound s → IsInput s.table.n input → OnlyFullOverruns (step s input).state (step s input).shown
 
--- ---- packets come through unchanged
-
--- whether one element alone sends
-abbrev pub is_source : Kind → Bool
-is_source Voted = false
-is_source (Source s) = true
-is_source Every = false
-
--- An exchange that is held alike, and is not of one source, has the common packet as its entry at each element.
-abbrev pub IsUnchanged : Shown → Type 0
-IsUnchanged shown = (service : Service) (g : Group) (head : Posted) (me : ℕ)
-    → shown.decision ≡ Exchange service → group_named shown.table service.vid ≡ Some g
-    → held_alike_in shown g ≡ Some head → is_source service.kind ≡ false → me < shown.table.n
-    → cell_at shown.entries me ≡ Some head.1
-
--- so it is in each cycle
+-- an exchange that is held alike, and is not of one source, has the common packet as its entry at each element
 abbrev pub AlwaysUnchanged : Type 0
 AlwaysUnchanged = (s : State) (input : Input) → IsSound s → IsInput s.table.n input → IsUnchanged (step s input).shown
 
--- What an element's member has to send: it is live, and has a head.
-pub record HasHead (shown : Shown) (service : Service) (ne : ℕ) : Type 0 where
-  pub proc : Proc
-  pub live : member_at (senders shown.table service.vid) ne ≡ Some proc
-  pub head : Posted
-  pub held : head_at shown.queues proc ≡ Some head
-
--- An exchange of one source that is fault-free and admitted has that source's head as its entry at each element.
-abbrev pub IsSourced : Shown → Type 0
-IsSourced shown = (service : Service) (source : ℕ)
-    → shown.decision ≡ Exchange service → service.kind ≡ Source source → source < shown.table.n
-    → is_this shown.packets.faulty source ≡ false → has service.admitted source ≡ true
-    → (own : HasHead shown service source) × ((me : ℕ) → me < shown.table.n → cell_at shown.entries me ≡ Some own.head.1)
-
--- so it is in each cycle
+-- an exchange of one source that is fault-free and admitted has that source's head as its entry at each element
 abbrev pub AlwaysSourced : Type 0
 AlwaysSourced = (s : State) (input : Input) → IsSound s → IsInput s.table.n input → IsSourced (step s input).shown
 
--- ---- entries on members
-
--- whether an entry speaks of a member of the group that is served
-abbrev pub is_of_members : SyndromeKind → Bool
-is_of_members kind.P1 = false
-is_of_members kind.P2 = false
-is_of_members kind.R = true
-is_of_members kind.O = false
-is_of_members kind.D1 = false
-is_of_members kind.D2 = false
-is_of_members kind.V = true
-
--- Where the request that is taken is held alike, an entry of that sort at any element accuses the faulty one.
-abbrev pub IsAccurateAlike : Shown → Type 0
-IsAccurateAlike shown = (said : Relays) (me : ℕ) (g : Group) (head : Posted) → me < shown.table.n
-    → takes_of g.vid shown.decision ≡ true → group_named shown.table g.vid ≡ Some g → held_alike_in shown g ≡ Some head
-    → All (λ s. is_of_members s.kind ≡ true → shown.patterns.faulty ≡ Some s.accused) (syndromes_at shown said me)
-
--- so it is in each cycle
+-- where the request that is taken is held alike, each entry on members at any element accuses the faulty one
 abbrev pub AlwaysAccurateAlike : Type 0
 AlwaysAccurateAlike = (s : State) (input : Input) → IsSound s → IsInput s.table.n input → IsAccurateAlike (step s input).shown
 
@@ -106,6 +63,7 @@ pub record IsLawfulCycle (table : TableValue) (journal : Journal) (k : ℕ) : Ty
   pub accurate : IsAccurate (shown_at table journal k)
   pub alike : IsAccurateAlike (shown_at table journal k)
   pub equal : EqualEntries (shown_at table journal k)
+  pub whole : IsWholeEverywhere (shown_at table journal k)
   pub unchanged : IsUnchanged (shown_at table journal k)
   pub sourced : IsSourced (shown_at table journal k)
   pub overruns : OnlyFullOverruns (state_at table journal (k + 1)) (shown_at table journal k)

@@ -4,8 +4,9 @@ use Rattle.ftpp_base.specs.Lists.{each_below, cell_at}
 use Rattle.ftpp_base.specs.declared.element.Round.{Round}
 use Rattle.ftpp_base.specs.declared.element.Round.TheVariants.{A1, A2, B1, B2}
 use Rattle.bit_vote.specs.Vote.{Cell}
-use Rattle.run.specs.Element.{Kept, Heard}
-use Rattle.run.specs.Noted.{cells_made}
+use Rattle.run.specs.Cycle.{update_outcome}
+use Rattle.run.specs.Element.{Kept, Heard, Made, echoes_of, settled, own_packet, own_entry, own_service, own_handed, own_update, made}
+use Rattle.run.specs.Noted.{own_pattern, decided_by, cells_made}
 use Rattle.run.specs.Together.{Carried, heard_of}
 
 -- no cells of n elements
@@ -54,3 +55,19 @@ abbrev pub HeardByRounds : Type 0
 HeardByRounds = (heard : Heard) (n : ℕ) (carried : Carried) (me : ℕ)
     → with_heard (with_heard (with_heard (with_heard heard A1 n (λ sender. carried A1 sender me)) A2 n (λ sender. carried A2 sender me)) B1 n (λ sender. carried B1 sender me)) B2 n (λ sender. carried B2 sender me)
     ≡ heard_of carried n me
+
+-- ---- what it makes of a cycle, part by part: each by what was heard before
+
+-- Each part of what an element makes, by the parts before it.
+pub record IsMade (kept : Kept) (heard : Heard) (m : Made) : Type 0 where
+  pub patterns : m.patterns ≡ echoes_of kept.me (own_pattern kept) heard.patterns heard.relayed_patterns
+  pub pattern : m.pattern ≡ settled kept.table.n m.patterns
+  pub decision : m.decision ≡ decided_by kept heard.patterns heard.relayed_patterns
+  pub packets : m.packets ≡ echoes_of kept.me (own_packet kept m.decision) heard.packets heard.relayed_packets
+  pub entry : m.entry ≡ own_entry kept.table m.decision m.packets
+  pub handed : m.handed ≡ own_handed kept m.decision m.entry (own_service kept m.decision)
+  pub update : m.update ≡ update_outcome kept.table (own_update kept.table m.decision m.packets)
+
+-- What it makes has these parts.
+abbrev pub EachPartMade : Type 0
+EachPartMade = (kept : Kept) (heard : Heard) → IsMade kept heard (made kept heard)

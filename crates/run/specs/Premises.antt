@@ -6,7 +6,6 @@ use Rattle.packet_format.specs.declared.Act.{Act}
 use Rattle.packet_format.specs.declared.Act.TheVariants.{Post, Read}
 use Rattle.packet_format.specs.declared.ActAnswer.{ActAnswer}
 use Rattle.packet_format.specs.declared.ActAnswer.TheVariants.{Posted as Accepted, PostFull, Got, Nothing}
-use Rattle.bit_vote.specs.Vote.{IsRow, IsCell}
 use Rattle.config_table.specs.declared.groups.Group.{Group}
 use Rattle.config_table.specs.declared.decisions.Service.{Service}
 use Rattle.config_table.specs.Groups.{same_proc}
@@ -80,15 +79,3 @@ pub record IsSkewAlike (table : TableValue) (journal : Journal) (faulty : Option
   pub majority : fault_free_majority faulty g ≡ true
   pub alike : (a b : Proc) → Contains (fault_free_members faulty g) a → Contains (fault_free_members faulty g) b →
       PostAlike (length journal) g.ts (accepted_from (start table) journal a) (accepted_from (start table) journal b)
-
--- ---- what comes from outside has its shape
-
--- a post is of a packet of 64 bytes
-abbrev pub IsPostOfRow : Act → Type 0
-IsPostOfRow (Post poster desc packet) = IsRow 64 packet.bytes
-IsPostOfRow (Read reader) = Unit {0}
-
--- Posts are of packets of 64 bytes, and what the faulty element's frames of B1 read as is absent or has 64 bytes.
-pub record IsShaped (input : Input) : Type 0 where
-  pub posts : All IsPostOfRow input.acts
-  pub packets : All (IsCell 64) input.packets

@@ -8,7 +8,7 @@ use Rattle.bit_vote.specs.Vote.{Cell, IsCell}
 use Rattle.frame_format.specs.Frames.{width_in, cells_in}
 use Rattle.config_table.specs.Table.{TableValue, IsValid}
 use Rattle.run.specs.Cycle.{State, Input, start, step}
-use Rattle.run.specs.Run.{Journal, run}
+use Rattle.run.specs.Run.{Journal, AgreedState, run}
 use Rattle.run.specs.Sent.{cells_sent}
 use Rattle.run.specs.Syndromes.{Relays}
 use Rattle.run.specs.Element.{Kept, Heard}
@@ -118,3 +118,13 @@ abbrev pub EndTogether : Type 0
 EndTogether = (table : TableValue) (journal : Journal) (carrieds : List Carried) (me : ℕ)
     → IsValid table → AllByRecursion (IsInput table.n) journal → AreCarried (part_of (start table)) table.n journal carrieds → me < table.n
     → elements_after (part_of (start table)) table.n journal carrieds me ≡ part_of (run table journal) me
+
+-- what an element has of the agreed state
+abbrev pub agreed_by : Kept → AgreedState
+agreed_by kept = record { cycle = kept.cycle; table = kept.table; scoreboard = kept.scoreboard }
+
+-- So the tables and scoreboards of two elements never differ.
+abbrev pub NeverDiffer : Type 0
+NeverDiffer = (table : TableValue) (journal : Journal) (carrieds : List Carried) (one other : ℕ)
+    → IsValid table → AllByRecursion (IsInput table.n) journal → AreCarried (part_of (start table)) table.n journal carrieds → one < table.n → other < table.n
+    → agreed_by (elements_after (part_of (start table)) table.n journal carrieds one) ≡ agreed_by (elements_after (part_of (start table)) table.n journal carrieds other)

@@ -2,9 +2,9 @@
 
 ghost use Rattle.run.specs.Alone.{EachElementAlone, StaysSound, StartsSound};
 ghost use Rattle.run.specs.AloneRun.{EachBeginsAlone, RejoinGivesPart, EachRunAlone, EachFoldAlone};
-ghost use Rattle.run.specs.Laws.{AlwaysAccurate, AlwaysAccurateAlike, AlwaysEqualEntries, OverrunsOnlyFull, AlwaysUnchanged, AlwaysSourced, RunsStaySound, EachCycleLawful};
-ghost use Rattle.run.specs.Together.{ElementsTogether, SentIsTaken, SomeIsCarried, RunsTogether, EndTogether};
-ghost use Rattle.run.specs.Phases.{LooksBack, HeardByRounds};
+ghost use Rattle.run.specs.Laws.{AlwaysAccurate, AlwaysAccurateAlike, AlwaysEqualEntries, NeverSplit, OverrunsOnlyFull, AlwaysUnchanged, AlwaysSourced, RunsStaySound, EachCycleLawful};
+ghost use Rattle.run.specs.Together.{ElementsTogether, SentIsTaken, SomeIsCarried, RunsTogether, EndTogether, NeverDiffer};
+ghost use Rattle.run.specs.Phases.{LooksBack, HeardByRounds, EachPartMade};
 ghost use Rattle.run.specs.Claims.{RunsServeInTime, NoLossWithinSkew};
 
 // ---- States of a run.
@@ -53,6 +53,11 @@ pub fn each_fold_alone()
 
 // ---- Rounds of a cycle, one after another.
 
+/// What an element makes of a cycle, part by part: each by the parts before it.
+pub fn each_part_made()
+    ensures { EachPartMade }
+{}
+
 /// An element's frame of a round does not look at what it hears in that round or later.
 pub fn looks_back()
     ensures { LooksBack }
@@ -90,6 +95,11 @@ pub fn end_together()
     ensures { EndTogether }
 {}
 
+/// So the tables and scoreboards of two elements never differ.
+pub fn never_differ()
+    ensures { NeverDiffer }
+{}
+
 // ---- Each cycle.
 
 /// An exchange that is held alike, and is not of one source, has the common packet as its entry at each element.
@@ -107,6 +117,11 @@ pub fn always_equal_entries()
     ensures { AlwaysEqualEntries }
 {}
 
+/// An exchange of class 2 or 3, or of fewer than three live members, is never split, and has one entry everywhere.
+pub fn never_split()
+    ensures { NeverSplit }
+{}
+
 /// Each entry on copies that a fault-free element notes names the faulty one.
 pub fn always_accurate()
     ensures { AlwaysAccurate }
@@ -122,7 +137,7 @@ pub fn overruns_only_full()
     ensures { OverrunsOnlyFull }
 {}
 
-/// In each cycle of a run the notes on copies are accurate, the entries are equal where they are not split, and overruns come only of full inputs.
+/// In each cycle of a run the notes on copies are accurate, the entries are equal where they are not split and unchanged where they are held alike, and overruns come only of full inputs.
 pub fn each_cycle_lawful()
     ensures { EachCycleLawful }
 {}
