@@ -1,6 +1,7 @@
 -- The steps of a cycle, one after another.
 use Rattle.std.proofs.Common.{◌≡◌, ℕ, ◌<◌, ◌≤◌, cond, List, length, refl, ap, sym, ◌∙◌, arith}
 use Rattle.std.proofs.lemmas.Bool.{eq-eqb}
+use Rattle.std.proofs.lemmas.List.{length-replicate}
 use Rattle.std.proofs.lemmas.List.FromFn.{length-map-range_with_len}
 use Rattle.std.specs.Prelude.{None}
 use Rattle.ftpp_base.specs.Lists.{each_below, cell_at}
@@ -53,7 +54,7 @@ not_yet count rounds few many = omega arith
 
 -- as many cells as elements
 count_none : (n : ℕ) → length (no_cells n) ≡ n
-count_none n = length-map-range_with_len (λ s. None) 0 n
+count_none n = length-replicate n None
 
 -- an element begins with no cells of others
 pub own_cells_begin : OwnCellsBegin

@@ -1,6 +1,6 @@
 -- The entries of an exchange that is not split are equal at all fault-free elements: by its kind, by its members, or by the packet that is held alike.
 use Rattle.std.proofs.Common.{◌≡◌, ◌≢◌, ℕ, ◌<◌, Bool, true, false, cond, refl, subst, ap, sym, ◌∙◌, ◌⊎◌, inl, inr}
-use Rattle.std.specs.Prelude.{Option, Some, None, is_none, nat_le, nat_lt, ◌==◌, ◌&&◌}
+use Rattle.std.specs.Prelude.{Option, Some, None, is_none, nat_le, ◌==◌, ◌&&◌}
 use Rattle.std.proofs.lemmas.Bool.{and_parts, eq-eqb, ne_eqb, lt-leb}
 use Rattle.ftpp_base.specs.Lists.{cell_at, is_this}
 use Rattle.ftpp_base.specs.Sets.{has}
@@ -17,7 +17,6 @@ use Rattle.config_table.specs.declared.decisions.Decision.TheVariants.{Exchange}
 use Rattle.config_table.specs.declared.decisions.Service.{Service}
 use Rattle.config_table.specs.Groups.{live_count}
 use Rattle.config_table.specs.Table.{TableValue, IsValid, group_named}
-use Rattle.flag_vote.specs.Flags.{voted_flags}
 use Rattle.scoreboard.specs.Choice.{kind_of, discard_reason}
 use Rattle.scoreboard.specs.Service.{takes_of}
 use Rattle.packet_format.specs.declared.Descriptor.{Descriptor}
@@ -31,7 +30,7 @@ use Rattle.run.specs.Claims.{is_source}
 use Rattle.run.specs.Laws.{AlwaysEqualEntries, NeverSplit}
 use Rattle.run.proofs.DecisionLaws.{HasVid, HasVid-named}
 use Rattle.run.proofs.Chosen.{request_for, takes-chosen}
-use Rattle.run.proofs.SkewTaken.{service_for, done_exchange}
+use Rattle.run.proofs.SkewTaken.{done_exchange}
 use Rattle.run.proofs.Sound.{before_sound}
 use Rattle.run.proofs.AloneLaws.{decision_in, pattern_in, packets_in, entries_in}
 use Rattle.bit_vote.proofs.Copies.{copy-fine}
@@ -157,9 +156,9 @@ kind_served t input service g valid decided named =
     ap (λ (x : Service). x.kind) (sym done.1) ∙ ap (kind_of g) (ap (λ (x : Service). x.desc) done.1)
 
 -- what is not voted in one round is not split
-not_split : (voted rest : Bool) → voted ≡ false → (voted && rest) ≡ false
-not_split true rest e = cc
-not_split false rest e = refl
+not_split : (voted faulty unlike : Bool) → voted ≡ false → (voted && faulty && unlike) ≡ false
+not_split true faulty unlike e = cc
+not_split false faulty unlike e = refl
 
 -- An exchange of class 2 or 3, or of few live members, is not split, and has one entry everywhere.
 pub never_split : NeverSplit
@@ -168,7 +167,7 @@ never_split s input sound is service g decided named few =
     let t = before_rounds s input in
     let here = before_sound s input sound is.acts in
     let two : is_voted service.kind ≡ false = ap is_voted (kind_served t input service g here.valid decided named) ∙ few_rounds g service.desc few in (
-      not_split (is_voted service.kind) _ two,
+      not_split (is_voted service.kind) (includes service.admitted input.faulty) (is_none (held_alike input.faulty (head_at t.queues) g)) two,
       λ one other l m.
           entry_there t input service one l decided
           ∙ ap packet_in (entry-same t.table service (packets_in t input) one other two)

@@ -8,9 +8,8 @@ use Rattle.table_update.specs.declared.Update.{Update}
 use Rattle.table_update.specs.declared.Applied.{Applied}
 use Rattle.table_update.specs.declared.Applied.TheVariants.{Done, Refused, Absent}
 use Rattle.table_update.specs.Updates.{applied}
-use Rattle.run.specs.Cycle.{update_in, update_outcome}
-use Rattle.run.specs.Element.{Kept, Heard, Made, echoes_of, settled, own_packet, own_entry, own_service, own_delivery, own_handed, own_update, kept_by, kept_with, made, kept_after}
-use Rattle.run.specs.Noted.{own_pattern, decided_by}
+use Rattle.run.specs.Cycle.{update_in}
+use Rattle.run.specs.Element.{Kept, Made, own_service, own_delivery, own_update, kept_by, kept_with, made, kept_after}
 use Rattle.run.specs.Phases.{LooksBack, HeardByRounds, EachPartMade}
 use Rattle.run.proofs.Sound.{size-table_after}
 

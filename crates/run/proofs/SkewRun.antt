@@ -1,5 +1,5 @@
 -- A whole run of a group whose members post alike: nothing is lost.
-use Rattle.std.proofs.Common.{◌≡◌, ℕ, zero, suc, ◌+◌, ◌<◌, ◌≤◌, Bool, true, false, cond, List, [], ◌++◌, length, map, drop, refl, ap, arith, sym, ◌∙◌, subst, Contains, Option, Some, None, option_map, slice_get, All, unwrap_or, IsSomeAnd, ◌⊎◌}
+use Rattle.std.proofs.Common.{◌≡◌, ℕ, zero, suc, ◌+◌, ◌<◌, ◌≤◌, Bool, true, false, cond, List, [], ◌∷◌, ◌++◌, length, map, drop, refl, ap, arith, sym, ◌∙◌, subst, Contains, Option, Some, None, option_map, slice_get, unwrap_or, IsSomeAnd, ◌⊎◌}
 use Rattle.std.specs.List.{AllByRecursion}
 use Rattle.std.proofs.lemmas.List.{map-append, drop-append-le, length-append, get_or-replicate, length-replicate}
 use Rattle.std.proofs.lemmas.List.Elements.{All-from_recursion}

@@ -68,7 +68,7 @@ abbrev pub service_for : ℕ → Request → Service
 service_for now r = record { vid = r.sender.vid; desc = r.desc; kind = kind_of r.sender r.desc; admitted = r.flags.holds; waited = now - r.since }
 
 -- an exchange is of a request without a reason, and has its service
-done_exchange : (now : ℕ) (r : Request) (o : Option ℕ) (service : Service) → done_with now r o ≡ Exchange service → (o ≡ None) × (service_for now r ≡ service)
+pub done_exchange : (now : ℕ) (r : Request) (o : Option ℕ) (service : Service) → done_with now r o ≡ Exchange service → (o ≡ None) × (service_for now r ≡ service)
 done_exchange now r None service e = let same : service_for now r ≡ service = cc in (refl, same)
 done_exchange now r (Some n) service e = cc
 

@@ -1,5 +1,5 @@
 -- A run that meets the premises of the law: two fault-free members of a triplex post two cycles apart, beside a faulty one.
-use Rattle.std.proofs.Common.{◌≡◌, ℕ, zero, suc, ◌+◌, ◌<◌, ◌≤◌, true, List, [], ◌∷◌, replicate, refl, map, arith, ◌∙◌, subst, sym, Option, Some, None, All, slice_get, slice_index, IsSomeAnd}
+use Rattle.std.proofs.Common.{◌≡◌, ℕ, zero, suc, ◌+◌, ◌<◌, ◌≤◌, true, List, [], ◌∷◌, replicate, refl, map, arith, ◌∙◌, subst, sym, Option, Some, None, slice_get, slice_index, IsSomeAnd}
 use Rattle.std.specs.Prelude.{◌==◌, nat_lt}
 use Rattle.std.specs.List.{AllByRecursion, list_all}
 use Rattle.std.proofs.lemmas.Bool.{and_parts, ltb-true}

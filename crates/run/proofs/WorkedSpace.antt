@@ -44,6 +44,11 @@ full_receiver_notes : notes_at 1 (played four_elements full_for_three) ≡ repli
 unfolding worked
 full_receiver_notes = refl
 
+-- the lag of a member that says not full in between begins anew
+lag_begins_anew : map (λ k. lag_of (end_of four_elements (take k (says_full (obeyed (Some 3) []) ∷ obeyed (Some 3) [] ∷ says_full (obeyed (Some 3) []) ∷ []))).scoreboard 3 2) (1 ∷ 2 ∷ 3 ∷ []) ≡ 1 ∷ 0 ∷ 1 ∷ []
+unfolding worked
+lag_begins_anew = refl
+
 -- ---- an overrun at last: one receiver never reads
 
 abbrev posts_five : Planned
@@ -139,3 +144,14 @@ small_buffers_with_expiry : decisions (played (small 1) small_buffers)
     ≡ replicate 2 (serves 5 (to 3 2 0) (Source 0) 0 (0 ∷ [])) ++ Idle ∷ discards 5 (to 3 2 0) 6 1 (0 ∷ []) ∷ []
 unfolding worked
 small_buffers_with_expiry = refl
+
+-- a request with a reason is discarded with that, also where it is expired
+abbrev tight : TableValue
+tight = with_third (record third_group { ins = 1; tx = 1 })
+
+abbrev unlawful_and_expired : List Planned
+unlawful_and_expired = posts_five ∷ plain (posts_at (0 ∷ 1 ∷ []) 1 (to 3 2 7) []) ∷ replicate 3 (plain [])
+
+unlawful_before_expired : decisions (played tight unlawful_and_expired) ≡ serves 5 (to 3 2 0) (Source 0) 0 (0 ∷ []) ∷ replicate 3 Idle ++ discards 2 (to 3 2 7) 3 3 (0 ∷ 1 ∷ []) ∷ []
+unfolding worked
+unlawful_before_expired = refl

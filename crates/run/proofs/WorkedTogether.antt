@@ -1,12 +1,8 @@
 -- A run that meets the premises of the laws of each cycle and of all elements together, and these laws used on it.
-use Rattle.std.proofs.Common.{◌≡◌, ℕ, ◌<◌, List, [], ◌∷◌, replicate, refl, arith, Some, None}
-use Rattle.std.specs.List.{AllByRecursion}
-use Rattle.ftpp_base.proofs.Among.{all-get_or, all-replicate}
-use Rattle.packet_format.specs.declared.Act.{Act}
+use Rattle.std.proofs.Common.{ℕ, ◌<◌, [], ◌∷◌, arith}
 use Rattle.packet_format.specs.declared.Act.TheVariants.{Post}
-use Rattle.bit_vote.specs.Vote.{IsRow, IsCell}
 use Rattle.run.specs.Cycle.{Input, start, step}
-use Rattle.run.specs.Alone.{IsPosted, IsSound, IsAct, IsInput, part_of, before_rounds, HoldsItsPart}
+use Rattle.run.specs.Alone.{IsSound, part_of, before_rounds, HoldsItsPart}
 use Rattle.run.specs.Laws.{IsLawfulCycle}
 use Rattle.run.specs.Together.{Carried, IsCarried, frames_by, heard_of, said_to}
 use Rattle.run.proofs.RunsLawful.{each_cycle_lawful}

@@ -1,25 +1,9 @@
 -- What holds of each cycle from a sound state, whatever comes from outside, and so of each cycle of a run.
-use Rattle.std.specs.Prelude.{◌≡◌, ℕ, ◌+◌, ◌<◌, Bool, true, false, length, Some, All}
+use Rattle.std.specs.Prelude.{◌≡◌, ℕ, ◌+◌, ◌<◌, length}
 use Rattle.std.specs.List.{AllByRecursion}
-use Rattle.ftpp_base.specs.Lists.{cell_at, is_this}
-use Rattle.ftpp_base.specs.Sets.{has}
-use Rattle.ftpp_base.specs.declared.element.Proc.{Proc}
-use Rattle.config_table.specs.declared.groups.Group.{Group}
-use Rattle.config_table.specs.declared.decisions.Kind.{Kind}
-use Rattle.config_table.specs.declared.decisions.Kind.TheVariants.{Voted, Source, Every}
-use Rattle.config_table.specs.declared.decisions.Service.{Service}
-use Rattle.config_table.specs.declared.decisions.Decision.TheVariants.{Exchange}
-use Rattle.config_table.specs.Table.{TableValue, IsValid, group_named}
-use Rattle.processor_buffers.specs.Queues.{Posted}
-use Rattle.data_exchange.specs.Entries.{senders, member_at}
-use Rattle.run.specs.Processors.{head_at}
-use Rattle.syndrome_log.specs.declared.SyndromeKind.{SyndromeKind}
-use Rattle.syndrome_log.specs.declared.SyndromeKind.TheVariants as kind
-use Rattle.run.specs.Syndromes.{Relays, syndromes_at}
-use Rattle.run.specs.Premises.{held_alike_in}
-use Rattle.run.specs.Cycle.{State, Input, Shown, step}
+use Rattle.config_table.specs.Table.{TableValue, IsValid}
+use Rattle.run.specs.Cycle.{State, Input, step}
 use Rattle.run.specs.Run.{Journal, run, state_at, shown_at}
-use Rattle.scoreboard.specs.Service.{takes_of}
 use Rattle.run.specs.Claims.{IsAccurate, IsAccurateAlike, EqualEntries, IsWholeEverywhere, IsUnchanged, IsSourced, OnlyFullOverruns}
 use Rattle.run.specs.Alone.{IsSound, IsInput}
 

@@ -1,25 +1,26 @@
 -- One element in the midst of a cycle: it hears one round after another, and its frame of a round looks only at earlier ones.
-use Rattle.std.specs.Prelude.{◌≡◌, ℕ, Bool, true, false, List, None}
+use Rattle.std.specs.Prelude.{◌≡◌, ℕ, ◌<◌, ◌≤◌, Bool, true, false, List, length, replicate, None}
 use Rattle.ftpp_base.specs.Lists.{each_below, cell_at}
 use Rattle.ftpp_base.specs.declared.element.Round.{Round}
 use Rattle.ftpp_base.specs.declared.element.Round.TheVariants.{A1, A2, B1, B2}
 use Rattle.bit_vote.specs.Vote.{Cell}
+use Rattle.config_table.specs.Table.{IsValid}
 use Rattle.run.specs.Cycle.{update_outcome}
 use Rattle.run.specs.Element.{Kept, Heard, Made, echoes_of, settled, own_packet, own_entry, own_service, own_handed, own_update, made}
-use Rattle.run.specs.Noted.{own_pattern, decided_by, cells_made}
+use Rattle.run.specs.Noted.{own_pattern, decided_by, cells_made, noted_by}
 use Rattle.run.specs.Together.{Carried, heard_of}
 
 -- no cells of n elements
 abbrev pub no_cells : ℕ → List Cell
-no_cells n = each_below n (λ s. None)
+no_cells n = replicate n None
 
 -- nothing yet, among n elements
 abbrev pub nothing_heard : ℕ → Heard
 nothing_heard n = record {
   patterns = no_cells n;
-  relayed_patterns = each_below n (λ relay. no_cells n);
+  relayed_patterns = replicate n (no_cells n);
   packets = no_cells n;
-  relayed_packets = each_below n (λ relay. no_cells n);
+  relayed_packets = replicate n (no_cells n);
 }
 
 -- what it heard, with the frames of one round more, by sender
@@ -71,3 +72,7 @@ pub record IsMade (kept : Kept) (heard : Heard) (m : Made) : Type 0 where
 -- What it makes has these parts.
 abbrev pub EachPartMade : Type 0
 EachPartMade = (kept : Kept) (heard : Heard) → IsMade kept heard (made kept heard)
+
+-- What it notes in a cycle are at most 52 entries, whatever it heard: 4 P1, 16 P2, 4 R, 4 O, 4 D1, 16 D2, 4 V.
+abbrev pub FewNotes : Type 0
+FewNotes = (kept : Kept) (heard : Heard) → IsValid kept.table → kept.me < kept.table.n → length (noted_by kept (made kept heard)) ≤ 52

@@ -13,7 +13,7 @@ use Rattle.config_table.specs.Table.{TableValue, group_named}
 use Rattle.processor_buffers.specs.Queues.{Posted}
 use Rattle.data_exchange.specs.Entries.{fault_free_members, fault_free_majority, held_alike, is_split}
 use Rattle.run.specs.Processors.{head_at, entry_shown}
-use Rattle.run.specs.Cycle.{State, Shown, Input, start, step}
+use Rattle.run.specs.Cycle.{State, Shown, start, step}
 use Rattle.run.specs.Run.{Journal, history, shown_at, input_at}
 
 -- the head that a group's request is held alike with in a cycle
