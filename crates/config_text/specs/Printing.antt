@@ -22,7 +22,7 @@ HasDigits p = (p.ne < 10) × (p.port < 10)
 
 -- a digit, a dot, a digit
 abbrev pub proc_text : Proc → List ℕ
-proc_text p = (p.ne + 48) ∷ 46 ∷ (p.port + 48) ∷ []
+proc_text p = (48 + p.ne) ∷ 46 ∷ (48 + p.port) ∷ []
 
 abbrev pub printed_proc : Proc → Data
 printed_proc p = string (proc_text p)

@@ -50,17 +50,13 @@ fn add(array: &mut Array, value: Value) -> Result<(), NoMemory>
     }
 }
 
-/// Both numbers have one digit.
+/// The element, a dot and the port, each number of one digit.
 fn printed_proc(alloc: Global, p: Proc) -> Result<Value, NoMemory>
     requires { HasDigits p }
     ensures { IfOk result (λ v. view v ≡ printed_proc p) }
 {
-    let text = [p.ne + b'0', b'.', p.port + b'0'];
-    match std::str::from_utf8(&text) {
-        Ok(text) => match Value::string(alloc, text) {
-            Ok(value) => Ok(value),
-            Err(_) => Err(NoMemory),
-        },
+    match format!(in alloc; "{}.{}", p.ne, p.port) {
+        Ok(text) => Ok(Value::from(text)),
         Err(_) => Err(NoMemory),
     }
 }
