@@ -1,10 +1,10 @@
 -- A cycle keeps the numbers of the groups.
-use Rattle.std.proofs.Common.{◌≡◌, ℕ, Bool, true, false, cond, List, [], ◌∷◌, map, refl, ap, ◌∙◌, Option, Some, None}
+use Rattle.std.proofs.Common.{◌≡◌, ℕ, Bool, true, false, cond, List, [], ◌∷◌, refl, ap, ◌∙◌, Option, Some, None}
 use Rattle.packet_format.specs.declared.Act.{Act}
 use Rattle.processor_buffers.specs.Queues.{Queues}
 use Rattle.cluster.specs.declared.requests.Line.{Line}
 use Rattle.cluster.specs.declared.requests.Request.{Request}
-use Rattle.cluster.specs.Requests.{vids_in, marked, is_line_of, ended_line, ended}
+use Rattle.cluster.specs.Requests.{vids_in, marked, is_line_of, ended}
 use Rattle.cluster.specs.Plain.{State, queues_now, lines_now, chosen_now, lines_for, after_cycle}
 
 vids_in-marked : (now : ℕ) (all : List Queues) (lines : List Line) → vids_in (marked now all lines) ≡ vids_in lines

@@ -1,10 +1,9 @@
 -- A cluster without a faulty element, for posts of class 1: its state, its start, and one step with the report that it shows.
-use Rattle.std.specs.Prelude.{◌≡◌, ℕ, ◌+◌, ◌-◌, ◌*◌, Bool, false, IsTrue, ◌&&◌, ◌==◌, nat_lt, nat_le, List, [], map, filter, length, replicate, Option, Some, None, if◌then◌else◌}
+use Rattle.std.specs.Prelude.{ℕ, ◌+◌, ◌-◌, Bool, false, IsTrue, ◌&&◌, ◌==◌, nat_lt, nat_le, List, [], map, filter, length, replicate, Option, Some, None, if◌then◌else◌}
 use Rattle.std.specs.List.{list_all}
 use Rattle.ftpp_base.specs.Lists.{is_in}
 use Rattle.ftpp_base.specs.Sets.{set_of}
 use Rattle.ftpp_base.specs.declared.element.Proc.{Proc}
-use Rattle.packet_format.specs.declared.Descriptor.{Descriptor}
 use Rattle.packet_format.specs.declared.Delivered.{Delivered}
 use Rattle.packet_format.specs.declared.Act.{Act}
 use Rattle.packet_format.specs.declared.Act.TheVariants.{Post, Read}

@@ -1,5 +1,5 @@
 -- The requests that wait: one line for each group, what marks it in a cycle, and which request is chosen.
-use Rattle.std.specs.Prelude.{ℕ, ◌-◌, Bool, ◌&&◌, ◌||◌, ◌==◌, nat_lt, nat_le, List, [], ◌∷◌, map, filter, filter_map, find, Option, Some, None, option_map, unwrap_or, if◌then◌else◌}
+use Rattle.std.specs.Prelude.{ℕ, ◌-◌, Bool, ◌&&◌, ◌||◌, ◌==◌, nat_lt, nat_le, List, [], ◌∷◌, map, filter_map, find, Option, Some, None, option_map, unwrap_or, if◌then◌else◌}
 use Rattle.std.specs.List.{list_all}
 use Rattle.ftpp_base.specs.Bits.{most}
 use Rattle.ftpp_base.specs.declared.element.Proc.{Proc}
@@ -65,7 +65,8 @@ marked now all lines = map (marked_line now all) lines
 abbrev pub is_ready : ℕ → List Queues → Line → Waiting → Bool
 is_ready now all line w = list_all (holds all w.0) line.live.items || nat_le line.ts (now - w.1)
 
--- whether all live members of the destination say not full
+-- whether all live members of the destination say not full. Members of one group are handed the same packets and none is read,
+-- so either all say not full or all say full: no member lags, and most say not full exactly where all do.
 abbrev pub is_granted : List Line → List Queues → Descriptor → Bool
 is_granted lines all desc = list_all (has_space all) (live_of lines desc.dest)
 

@@ -1,7 +1,6 @@
 //! The output and the input of one processor.
 
 ghost use Rattle.std.specs.Prelude.{◌≡◌, IfOk};
-ghost use Rattle.packet_format.specs.Packets.{same_descriptor};
 ghost use Rattle.processor_buffers.specs.Queues.{no_queues, head_of, carries, has_in_room, after_post, after_pop, after_delivery};
 ghost use Rattle.cluster.specs.Ports.{out_limit, in_limit};
 
@@ -74,19 +73,12 @@ impl Port {
     }
 }
 
-/// Whether two requests are equal.
-pub(crate) fn is_same(a: &Descriptor, b: &Descriptor) -> bool
-    ensures { result ≡ same_descriptor a.now b.now }
-{
-    a.dest == b.dest && a.class == b.class && a.source == b.source
-}
-
 /// Whether a head carries the request.
 pub(crate) fn carries(head: Option<(Descriptor, Packet)>, desc: &Descriptor) -> bool
     ensures { result ≡ carries head desc.now }
 {
     match head {
-        Some((found, _)) => is_same(&found, desc),
+        Some((found, _)) => found == *desc,
         None => false,
     }
 }

@@ -3,7 +3,7 @@
 ghost use Rattle.std.specs.Prelude.{◌≡◌, ◌≤◌, length};
 ghost use Rattle.config_table.specs.Groups.{live_members};
 
-use crate::port::{self, Port};
+use crate::port::Port;
 use crate::ports;
 use config_table::Group;
 use ftpp_base::{Proc, Row};
@@ -109,13 +109,7 @@ fn since_of(now: u32, before: Option<(Descriptor, u32)>, desc: &Descriptor) -> u
     ensures { result ≡ since_of now before desc.now }
 {
     match before {
-        Some((waited, since)) => {
-            if port::is_same(&waited, desc) {
-                since
-            } else {
-                now
-            }
-        }
+        Some((waited, since)) => { if waited == *desc { since } else { now } }
         None => now,
     }
 }
