@@ -9,6 +9,8 @@ mod run;
 mod script;
 mod status;
 mod tables;
+#[cfg(test)]
+mod tests;
 mod text;
 mod totals;
 mod words;
