@@ -7,11 +7,17 @@ use packet_format::Descriptor;
 #[derive(Clone, Copy, Debug, PartialEq, Eq)]
 pub struct GroupFlags {
     pub vid: u8,
+    /// The descriptor that more than half of the live members hold.
     pub desc: Option<Descriptor>,
+    /// Whether all live members hold it; false where there is none.
     pub unanimous: bool,
+    /// Where the live members stand.
     pub live: Set8,
+    /// Where those of them stand that hold the voted descriptor; empty where there is none.
     pub holds: Set8,
+    /// Where those of them stand that say that their input is not full.
     pub space: Set8,
+    /// Whether more than half of the live members say so.
     pub most_space: bool,
 }
 
@@ -36,18 +42,23 @@ pub type VotedFlags = Row<GroupFlags, 40>;
 /// How a request is carried.
 #[derive(Clone, Copy, Debug, PartialEq, Eq)]
 pub enum Kind {
+    /// In one round, with a vote over the copies of all that contribute.
     Voted,
+    /// In two rounds, from this element alone.
     Source(Ne),
+    /// In two rounds, from each element that contributes.
     Every,
 }
 
-/// A request that is served. `admitted` is a set of elements.
+/// A request that is served.
 #[derive(Clone, Copy, Debug, PartialEq, Eq)]
 pub struct Service {
     pub vid: u8,
     pub desc: Descriptor,
     pub kind: Kind,
+    /// The elements of the live members that hold the descriptor.
     pub admitted: Set8,
+    /// How many cycles the request waited.
     pub waited: u32,
 }
 
@@ -55,6 +66,7 @@ pub struct Service {
 #[derive(Clone, Copy, Debug, PartialEq, Eq)]
 pub enum Decision {
     Idle,
+    /// A request that is not lawful or has expired, with the reason, 1 to 6.
     Discard {
         vid: u8,
         desc: Descriptor,
@@ -65,11 +77,13 @@ pub enum Decision {
     Exchange(Service),
 }
 
-/// What the scoreboard keeps of a group: its request with `since` and `starved`, and a lag for each member.
+/// What the scoreboard keeps of a group.
 #[derive(Clone, Copy, Debug, PartialEq, Eq)]
 pub struct StateRow {
     pub vid: u8,
+    /// Its request, the cycle since which it stands, and how many cycles in a row its destination had no space.
     pub request: Option<(Descriptor, u32, u32)>,
+    /// How many cycles in a row each member was full while the group had most space.
     pub lags: [u32; 4],
 }
 

@@ -15,11 +15,11 @@ pub struct Group {
     pub members: Row<Proc, 4>,
     /// The indices of the members that are not live.
     pub masked: Set8,
-    /// How long, in cycles, a request waits that not all hold; 1 to 1,000.
+    /// How many cycles a request waits for members that do not hold it; 1 to 1,000.
     pub ts: u16,
-    /// How long, in cycles, a request waits on a full input; 1 to 1,000.
+    /// How many cycles in a row a member with a full input is waited for; 1 to 1,000.
     pub tr: u16,
-    /// The age, in cycles, at which a request to the group is dropped; at most 1,000, and 0 means never.
+    /// How many cycles in a row a request to the group waits while most inputs are full; at most 1,000, and 0 means without end.
     pub tx: u16,
     /// How many packets the output of a member's port holds; 1 to 64.
     pub outs: u8,
