@@ -1,5 +1,5 @@
 -- What decoded cells are: those of the one frame that the bytes can be.
-use Rattle.std.proofs.Common.{◌≡◌, ℕ, ◌+◌, ◌-◌, ◌*◌, ◌<◌, ◌≤◌, zero, suc, List, [], ◌∷◌, ◌++◌, Option, Some, None, Bool, true, false, cond, length, get_or, take, drop, map, refl, sym, ◌∙◌, ap, arith, length-drop, subst}
+use Rattle.std.proofs.Common.{◌≡◌, ℕ, ◌+◌, ◌-◌, ◌*◌, ◌<◌, zero, suc, List, Some, None, Bool, true, false, cond, length, get_or, take, drop, map, refl, sym, ◌∙◌, ap, arith, length-drop, subst}
 use Rattle.std.specs.Prelude.{slice_range, ◌&&◌, ◌==◌}
 use Rattle.std.specs.List.{AllByRecursion, range_with_len}
 use Rattle.std.proofs.lemmas.List.{ext_get_or, length-take-le, drop-drop}
