@@ -1,20 +1,22 @@
 -- The steps of a cycle, one after another.
 use Rattle.std.proofs.Common.{◌≡◌, ℕ, ◌<◌, ◌≤◌, cond, List, length, refl, ap, sym, ◌∙◌, arith}
 use Rattle.std.proofs.lemmas.Bool.{eq-eqb}
-use Rattle.std.proofs.lemmas.List.{length-replicate}
+use Rattle.std.proofs.lemmas.List.{length-replicate, set-get_or}
 use Rattle.std.proofs.lemmas.List.FromFn.{length-map-range_with_len}
-use Rattle.std.specs.Prelude.{None}
+use Rattle.std.specs.Prelude.{None, slice_set}
 use Rattle.ftpp_base.specs.Lists.{each_below, cell_at}
 use Rattle.ftpp_base.specs.declared.element.Round.{Round}
 use Rattle.ftpp_base.specs.declared.element.Round.TheVariants.{A1, A2, B1, B2}
 use Rattle.bit_vote.specs.Vote.{Cell}
 use Rattle.frame_format.specs.Frames.{reads_as}
+use Rattle.two_round.specs.Echoes.{Echoes}
 use Rattle.two_round.proofs.Agreement.{at_place}
 use Rattle.run.proofs.PhaseLaws.{kept_size}
-use Rattle.run.specs.Element.{Kept, Heard}
+use Rattle.run.specs.Element.{Kept, Heard, own_packet}
+use Rattle.run.specs.Noted.{own_pattern, where_relayed}
 use Rattle.run.specs.Phases.{no_cells}
-use Rattle.element_core.specs.ElementValue.{own_cells, cells_taken, ended_with}
-use Rattle.element_core.specs.Steps.{OwnCellsBegin, OwnCellsStay, CycleOfSteps}
+use Rattle.element_core.specs.ElementValue.{own_cells, cells_taken, ended_with, decision_now}
+use Rattle.element_core.specs.Steps.{OwnCellsBegin, OwnCellsStay, OwnCellsHold, CycleOfSteps}
 
 -- ---- a cycle of steps
 
@@ -102,4 +104,24 @@ own_cells_stay e B2 frames due there has = record {
   packets = λ l. absurd (not_yet 3 0 (omega arith) l);
   pattern_count = count_none e.kept.table.n ∙ sym (kept_size e.kept _);
   packet_count = count_none e.kept.table.n ∙ sym (kept_size e.kept _);
+}
+
+-- ---- what it holds
+
+-- with its own cell put where it stands a list stays
+put_again : (cells : List Cell) (me : ℕ) (own : Cell) → cell_at cells me ≡ own → slice_set cells me own ≡ cells
+put_again cells me own e = ap (slice_set cells me) (sym e) ∙ set-get_or cells me None
+
+-- what is held of an exchange, by its copies
+abbrev echoes_with : ℕ → List (List Cell) → List Cell → Echoes
+echoes_with me relayed copies = record { me = me; copies = copies; relayed = relayed }
+
+pub own_cells_hold : OwnCellsHold
+own_cells_hold e has = record {
+  patterns = λ l. ap (echoes_with e.kept.me e.heard.relayed_patterns) (put_again e.heard.patterns e.kept.me (own_pattern e.kept) (has.patterns l));
+  packets = λ l. ap (echoes_with e.kept.me e.heard.relayed_packets)
+      (put_again e.heard.packets e.kept.me (own_packet e.kept (decision_now e)) (has.packets l));
+  pattern_echo = λ l. put_again e.heard.patterns e.kept.me (own_pattern e.kept) (has.patterns l);
+  packet_echo = λ l. ap (λ copies. each_below e.kept.table.n (where_relayed (decision_now e) copies))
+      (put_again e.heard.packets e.kept.me (own_packet e.kept (decision_now e)) (has.packets l));
 }

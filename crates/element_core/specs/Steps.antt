@@ -1,10 +1,10 @@
 -- What holds of one element step by step, whatever frames come.
 use Rattle.std.specs.Prelude.{◌≡◌, ℕ, ◌<◌, ◌≤◌, List, length}
-use Rattle.ftpp_base.specs.Lists.{cell_at}
+use Rattle.ftpp_base.specs.Lists.{each_below, cell_at}
 use Rattle.ftpp_base.specs.declared.element.Round.{Round}
 use Rattle.ftpp_base.specs.declared.element.Round.TheVariants.{A1, A2, B1, B2}
-use Rattle.run.specs.Element.{Kept, own_packet}
-use Rattle.run.specs.Noted.{own_pattern}
+use Rattle.run.specs.Element.{Kept, echoes_of, own_packet}
+use Rattle.run.specs.Noted.{own_pattern, where_relayed, cells_made}
 use Rattle.run.specs.Together.{Carried, heard_of}
 use Rattle.element_core.specs.declared.Due.TheVariants.{Absorb}
 use Rattle.element_core.specs.ElementValue.{ElementValue, begins_with, after_emit, after_absorb, cells_taken, ended_with, rounds_heard, decision_now}
@@ -25,6 +25,18 @@ OwnCellsBegin = (kept : Kept) → HasOwnCells (begins_with kept)
 abbrev pub OwnCellsStay : Type 0
 OwnCellsStay = (e : ElementValue) (round : Round) (frames : ℕ → List ℕ)
     → e.due ≡ Absorb round → e.kept.me < e.kept.table.n → HasOwnCells e → HasOwnCells (after_absorb round frames e)
+
+-- So what it holds of both exchanges is what it counts of them, and what it relays are its copies.
+pub record HoldsEchoes (e : ElementValue) : Type 0 where
+  pub patterns : 1 ≤ rounds_heard e.due → echoes_of e.kept.me (own_pattern e.kept) e.heard.patterns e.heard.relayed_patterns
+      ≡ record { me = e.kept.me; copies = e.heard.patterns; relayed = e.heard.relayed_patterns }
+  pub packets : 3 ≤ rounds_heard e.due → echoes_of e.kept.me (own_packet e.kept (decision_now e)) e.heard.packets e.heard.relayed_packets
+      ≡ record { me = e.kept.me; copies = e.heard.packets; relayed = e.heard.relayed_packets }
+  pub pattern_echo : 1 ≤ rounds_heard e.due → cells_made e.kept e.heard A2 ≡ e.heard.patterns
+  pub packet_echo : 3 ≤ rounds_heard e.due → cells_made e.kept e.heard B2 ≡ each_below e.kept.table.n (where_relayed (decision_now e) e.heard.packets)
+
+abbrev pub OwnCellsHold : Type 0
+OwnCellsHold = (e : ElementValue) → HasOwnCells e → HoldsEchoes e
 
 -- ---- a cycle of steps
 

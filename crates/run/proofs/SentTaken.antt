@@ -119,17 +119,17 @@ one_cell wide cell zero is = is
 one_cell wide cell (suc s) is = tt
 
 -- a frame of no rows
-no_cells : (wide n s : ℕ) → IsCell wide (cell_at (replicate n None) s)
-no_cells wide zero s = tt
-no_cells wide (suc n) zero = tt
-no_cells wide (suc n) (suc s) = no_cells wide n s
+none_cells : (wide n s : ℕ) → IsCell wide (cell_at (replicate n None) s)
+none_cells wide zero s = tt
+none_cells wide (suc n) zero = tt
+none_cells wide (suc n) (suc s) = none_cells wide n s
 
 -- cells of their widths
 frame_cells : (n : ℕ) (input : Input) (round : Round) (me s : ℕ) → IsInput n input → IsCell (width_in round) (cell_at (faulty_frame n input round me) s)
 frame_cells n input A1 me s is = one_cell 32 (cell_at input.patterns me) s (is.pattern_cells me)
-frame_cells n input A2 me s is = no_cells 32 n s
+frame_cells n input A2 me s is = none_cells 32 n s
 frame_cells n input B1 me s is = one_cell 64 (cell_at input.packets me) s (is.packet_cells me)
-frame_cells n input B2 me s is = no_cells 64 n s
+frame_cells n input B2 me s is = none_cells 64 n s
 
 -- a fabric that carries these frames
 carries_in : (n : ℕ) (frames : Round → ℕ → List Cell) (input : Input) → IsInput n input → IsCarried n frames input (carried_in n frames input)

@@ -2,6 +2,7 @@
 use Rattle.std.proofs.Common.{◌≡◌, ℕ, List, [], ◌∷◌, replicate, refl}
 use Rattle.std.specs.Prelude.{Some, None, ◌==◌, ◌++◌, if◌then◌else◌}
 use Rattle.ftpp_base.specs.Lists.{change_at}
+use Rattle.packet_format.specs.Packets.{filled_up}
 use Rattle.local_pattern.specs.Pattern.{quiet_column}
 use Rattle.config_table.specs.declared.decisions.Decision.TheVariants.{Idle}
 use Rattle.config_table.specs.declared.decisions.Kind.TheVariants.{Voted, Source}
@@ -9,7 +10,7 @@ use Rattle.processor_buffers.specs.declared.Handed.TheVariants.{Stored}
 use Rattle.syndrome_log.specs.declared.Syndrome.{Syndrome}
 use Rattle.syndrome_log.specs.declared.SyndromeKind.TheVariants as kind
 use Rattle.syndrome_log.specs.Log.{noted}
-use Rattle.run.proofs.WorkedParts.{worked, Planned, obeyed, silent, flipped, to_two, played, proc, to, to_three, packet, packet_41, post, posts_at, four_elements, serves, decisions, results_at, handed_at, notes_at, notes_of, patterns, roomy, asks, with_entry, totals}
+use Rattle.run.proofs.WorkedParts.{worked, Planned, obeyed, silent, flipped, to_two, played, proc, to, to_three, packet, packet_41, post, posts_at, four_elements, five_elements, serves, decisions, results_at, handed_at, notes_at, notes_of, patterns, roomy, asks, with_entry, totals}
 
 -- ---- a silent element: element 2 sends nothing for four cycles
 
@@ -58,6 +59,22 @@ two_faced_pattern_notes : notes_of (0 ∷ 1 ∷ 2 ∷ []) (played four_elements 
     ∷ []
 unfolding worked
 two_faced_pattern_notes = refl
+
+-- ---- a tied pattern: of five elements the last shows two of the others a request, which counts as none
+
+abbrev tied_pattern : List Planned
+tied_pattern = record (obeyed (Some 4) []) { patterns = to_two 0 (flipped 0 1) 1 (flipped 0 1) } ∷ []
+
+tied_pattern_agreed : patterns (played five_elements tied_pattern) ≡ replicate 5 roomy ∷ []
+unfolding worked
+tied_pattern_agreed = refl
+
+tied_pattern_notes : notes_of (0 ∷ 1 ∷ 2 ∷ 3 ∷ []) (played five_elements tied_pattern) ≡
+    (noted 0 kind.P1 4 4 ∷ noted 0 kind.P2 1 4 ∷ [])
+    ∷ (noted 0 kind.P1 4 4 ∷ noted 0 kind.P2 0 4 ∷ [])
+    ∷ replicate 2 (noted 0 kind.P2 0 4 ∷ noted 0 kind.P2 1 4 ∷ [])
+unfolding worked
+tied_pattern_notes = refl
 
 -- ---- a false echo: element 3 tells element 1 another pattern of element 0
 
@@ -151,3 +168,14 @@ never_settled_notes = refl
 never_settled_totals : totals (played four_elements never_settled) ≡ record { served = 1; discarded = 0; idle = 3; stored = 2; overrun = 0; noted = 3 }
 unfolding worked
 never_settled_totals = refl
+
+-- ---- an uninvited packet: element 2 has no request, but sends a packet where two others, who differ, are served
+
+abbrev uninvited_packet : List Planned
+uninvited_packet =
+    obeyed (Some 2) (post 0 1 to_three (0x0f ∷ []) ∷ post 1 1 to_three (0xf0 ∷ []) ∷ [])
+    ∷ replicate 2 (obeyed (Some 2) []) ++ record (obeyed (Some 2) []) { packets = λ to cell. Some (filled_up 64 (0x0f ∷ [])) } ∷ []
+
+uninvited_packet_results : results_at (0 ∷ 1 ∷ 3 ∷ []) (played four_elements uninvited_packet) ≡ replicate 3 (replicate 3 None) ++ replicate 3 (Some (packet [])) ∷ []
+unfolding worked
+uninvited_packet_results = refl

@@ -83,6 +83,25 @@ pub four_elements_valid : table_error four_elements ≡ None
 unfolding worked
 four_elements_valid = refl
 
+-- five elements; group 1 is the manager, and no group has a member at each
+abbrev pub five_elements : TableValue
+five_elements = record {
+  n = 5;
+  manager = 1;
+  groups =
+      first_group
+      ∷ group 2 (proc 1 1 ∷ proc 2 1 ∷ proc 3 1 ∷ [])
+      ∷ group 3 (proc 2 2 ∷ proc 3 2 ∷ proc 4 2 ∷ [])
+      ∷ group 4 (proc 0 3 ∷ proc 1 3 ∷ proc 3 3 ∷ proc 4 3 ∷ [])
+      ∷ group 5 (proc 4 4 ∷ [])
+      ∷ group 6 (proc 0 5 ∷ [])
+      ∷ [];
+}
+
+pub five_elements_valid : table_error five_elements ≡ None
+unfolding worked
+five_elements_valid = refl
+
 -- ---- packets, requests and acts
 
 -- a packet that begins with these bytes

@@ -1,5 +1,5 @@
 -- Worked runs of receivers without space: lags, overruns, expiry and small buffers.
-use Rattle.std.proofs.Common.{◌≡◌, ℕ, List, [], ◌∷◌, replicate, refl, map}
+use Rattle.std.proofs.Common.{◌≡◌, ℕ, List, [], ◌∷◌, length, replicate, refl, map}
 use Rattle.std.specs.Prelude.{Some, None, ◌++◌, drop, take}
 use Rattle.packet_format.specs.declared.Act.TheVariants.{Read}
 use Rattle.packet_format.specs.declared.ActAnswer.TheVariants.{Posted, PostFull, Got}
@@ -10,6 +10,7 @@ use Rattle.processor_buffers.specs.declared.Handed.TheVariants.{Stored, Overrun}
 use Rattle.scoreboard.specs.Board.{starved_of, lag_of}
 use Rattle.syndrome_log.specs.declared.SyndromeKind.TheVariants as kind
 use Rattle.syndrome_log.specs.Log.{noted}
+use Rattle.run.specs.Processors.{queues_of}
 use Rattle.run.proofs.WorkedParts.{worked, Planned, plain, obeyed, flipped, played, end_of, proc, to, to_three, packet, post, posts_at, four_elements, with_third, table_of, first_group, second_group, third_group, fourth_group, fifth_group, serves, discards, decisions, handed_at, notes_at, totals, answers}
 
 -- ---- a full receiver: element 3 says full at port 2 in some cycles
@@ -69,6 +70,10 @@ overrun_at_last_handed : drop 34 (handed_at (0 ∷ 1 ∷ 2 ∷ 3 ∷ []) (played
     ≡ (None ∷ Some (proc 1 2, Overrun) ∷ Some (proc 2 2, Stored) ∷ Some (proc 3 2, Stored) ∷ []) ∷ []
 unfolding worked
 overrun_at_last_handed = refl
+
+overrun_at_last_held : map (λ proc. length (queues_of (end_of four_elements overrun_at_last).queues proc).input) (proc 1 2 ∷ proc 2 2 ∷ proc 3 2 ∷ []) ≡ 32 ∷ 1 ∷ 1 ∷ []
+unfolding worked
+overrun_at_last_held = refl
 
 overrun_at_last_read : take 2 (answers (played four_elements overrun_at_last))
     ≡ (Posted ∷ []) ∷ (Posted ∷ replicate 2 (Got (record { cycle = 0; from = 5; class = 2; dest = 3; packet = packet (5 ∷ []) }))) ∷ []

@@ -77,6 +77,15 @@ two_of_three_totals : totals (played four_elements two_of_three) ≡ record { se
 unfolding worked
 two_of_three_totals = refl
 
+-- ---- two of four members post: half is no majority
+
+abbrev two_of_four : List Planned
+two_of_four = plain (posts_at (0 ∷ 1 ∷ []) 0 to_three (0x41 ∷ [])) ∷ replicate 4 (plain [])
+
+two_of_four_idle : decisions (played four_elements two_of_four) ≡ replicate 5 Idle
+unfolding worked
+two_of_four_idle = refl
+
 -- ---- a late member: the third one posts some cycles later
 
 -- it posts after so many cycles, before so many others

@@ -1,10 +1,13 @@
 -- One element in the midst of a cycle: it hears one round after another, and its frame of a round looks only at earlier ones.
-use Rattle.std.specs.Prelude.{◌≡◌, ℕ, ◌<◌, ◌≤◌, Bool, true, false, List, length, replicate, None}
+use Rattle.std.specs.Prelude.{◌≡◌, ℕ, ◌<◌, ◌≤◌, Bool, true, false, List, length, replicate, None, IfSome}
 use Rattle.ftpp_base.specs.Lists.{each_below, cell_at}
 use Rattle.ftpp_base.specs.declared.element.Round.{Round}
 use Rattle.ftpp_base.specs.declared.element.Round.TheVariants.{A1, A2, B1, B2}
 use Rattle.bit_vote.specs.Vote.{Cell}
 use Rattle.config_table.specs.Table.{IsValid}
+use Rattle.frame_format.specs.Frames.{IsWide, IsFrame, frame_bytes}
+use Rattle.processor_buffers.specs.Queues.{head_of}
+use Rattle.run.specs.Processors.{port_queues}
 use Rattle.run.specs.Cycle.{update_outcome}
 use Rattle.run.specs.Element.{Kept, Heard, Made, echoes_of, settled, own_packet, own_entry, own_service, own_handed, own_update, made}
 use Rattle.run.specs.Noted.{own_pattern, decided_by, cells_made, noted_by}
@@ -76,3 +79,20 @@ EachPartMade = (kept : Kept) (heard : Heard) → IsMade kept heard (made kept he
 -- What it notes in a cycle are at most 52 entries, whatever it heard: 4 P1, 16 P2, 4 R, 4 O, 4 D1, 16 D2, 4 V.
 abbrev pub FewNotes : Type 0
 FewNotes = (kept : Kept) (heard : Heard) → IsValid kept.table → kept.me < kept.table.n → length (noted_by kept (made kept heard)) ≤ 52
+
+-- ---- its frames are in the grammar
+
+-- What an element keeps and heard is whole: it is one of the elements, it has a cell for each, of its width, and 64 bytes at each head.
+pub record IsWhole (kept : Kept) (heard : Heard) : Type 0 where
+  pub me : kept.me < kept.table.n
+  pub pattern_count : length heard.patterns ≡ kept.table.n
+  pub packet_count : length heard.packets ≡ kept.table.n
+  pub patterns : (s : ℕ) → IsWide 32 (cell_at heard.patterns s)
+  pub packets : (s : ℕ) → IsWide 64 (cell_at heard.packets s)
+  pub heads : (port : ℕ) → IfSome (head_of (port_queues kept.ports port)) (λ posted. length posted.1.bytes ≡ 64)
+
+-- The frame that it sends in a round, then, is that of the cells that it makes.
+abbrev pub FramesFit : Type 0
+FramesFit = (kept : Kept) (heard : Heard) (round : Round) → IsWhole kept heard
+    → IsFrame kept.table.n (record { cycle = kept.cycle; round = round }) kept.me
+    (frame_bytes (record { cycle = kept.cycle; round = round }) kept.me (cells_made kept heard round)) (cells_made kept heard round)

@@ -4,7 +4,7 @@ ghost use Rattle.run.specs.Alone.{EachElementAlone, StaysSound, StartsSound};
 ghost use Rattle.run.specs.AloneRun.{EachBeginsAlone, RejoinGivesPart, EachRunAlone, EachFoldAlone};
 ghost use Rattle.run.specs.Laws.{AlwaysAccurate, AlwaysAccurateAlike, AlwaysEqualEntries, NeverSplit, OverrunsOnlyFull, AlwaysUnchanged, AlwaysSourced, RunsStaySound, EachCycleLawful};
 ghost use Rattle.run.specs.Together.{ElementsTogether, SentIsTaken, SomeIsCarried, RunsTogether, EndTogether, NeverDiffer};
-ghost use Rattle.run.specs.Phases.{LooksBack, HeardByRounds, EachPartMade, FewNotes};
+ghost use Rattle.run.specs.Phases.{LooksBack, HeardByRounds, EachPartMade, FewNotes, FramesFit};
 ghost use Rattle.run.specs.Claims.{RunsServeInTime, NoLossWithinSkew};
 
 // ---- States of a run.
@@ -61,6 +61,11 @@ pub fn each_part_made()
 /// An element's frame of a round does not look at what it hears in that round or later.
 pub fn looks_back()
     ensures { LooksBack }
+{}
+
+/// The frame that an element sends in a round is that of the cells that it makes, where what it has is whole.
+pub fn frames_fit()
+    ensures { FramesFit }
 {}
 
 /// What an element notes in a cycle are at most 52 entries, whatever it heard.
