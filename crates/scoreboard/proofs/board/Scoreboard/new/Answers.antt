@@ -1,0 +1,15 @@
+use Rattle.std.proofs.Common.{sym, ◌∙◌, ap, subst}
+use Rattle.scoreboard.specs.Board.{Scoreboard}
+use Rattle.scoreboard.specs.Steps.{sinces_in}
+use Rattle.scoreboard.specs.Times.{AreBefore, AreLinesOf}
+use Rattle.scoreboard.proofs.Kept.{sinces_empty, before_empty, lines_empty}
+use Rattle.scoreboard.proofs.board.Scoreboard.new.Goals as goal
+
+pub invariant_of-result : goal.invariant_of-result
+invariant_of-result c = c.new.ensures ∙ sinces_empty c.args.table.now ∙ ap sinces_in (sym c.lines_in.ensures.lines)
+
+pub returns-clause-lines : goal.returns-clause-lines
+returns-clause-lines c = let P : Scoreboard → Type 0 = λ board. AreLinesOf c.args.table.now board in subst P (sym c.lines_in.ensures.lines) (lines_empty c.args.table.now)
+
+pub returns-clause-earlier : goal.returns-clause-earlier
+returns-clause-earlier c = let P : Scoreboard → Type 0 = λ board. AreBefore 0 board in subst P (sym c.lines_in.ensures.lines) (before_empty c.args.table.now)

@@ -1,0 +1,219 @@
+//! The scoreboard.
+
+ghost use Rattle.std.specs.Prelude.{◌≡◌, ◌+◌, ◌<◌, ◌≤◌, ℕ, map, true, is_some};
+ghost use Rattle.sender_choice.specs.Sinces.{is_held};
+ghost use Rattle.sender_choice.specs.Pairs.{sinces_of};
+ghost use Rattle.config_table.specs.Table.{IsValid, group_named};
+ghost use Rattle.scoreboard.specs.Board.{empty_scoreboard, line_of, marked, without_request, after_update, request_of, starved_of, lag_of};
+ghost use Rattle.scoreboard.specs.Choice.{decision_of, after_decision, scoreboard_decision, scoreboard_after};
+ghost use Rattle.scoreboard.specs.Steps.{sinces_in, line_but, lines_but};
+ghost use Rattle.scoreboard.specs.Times.{AreBefore, AreHeldBy, AreOthersHeldBy, AreLinesOf, lines_for};
+
+use crate::choice::choosable;
+use crate::decision::{decided, taken};
+use crate::lookups::{blank_line, groups_in, line_of};
+use crate::marks::marked;
+use config_table::{Decision, GroupFlags, StateRow, Table, VotedFlags};
+use ftpp_base::Row;
+use packet_format::Descriptor;
+use sender_choice::{Chooser, IndexChooser};
+use std::marker::Model;
+
+/// Which request waits since when, and which member lags: one line for each group, in the order of the table.
+#[derive(Drop)]
+pub struct Scoreboard {
+    lines: Row<StateRow, 40>,
+    /// The groups with a request, the oldest first.
+    chooser: IndexChooser,
+}
+
+impl Model for Scoreboard {
+    ghost use Rattle.std.specs.Prelude.{◌≡◌, List};
+    ghost use Rattle.config_table.specs.declared.decisions.StateRow.{StateRow};
+    ghost use Rattle.sender_choice.specs.Pairs.{sinces_of};
+    ghost use Rattle.scoreboard.specs.Steps.{sinces_in};
+
+    ghost Value = { List StateRow };
+
+    ghost view = { λ s. s.lines.items };
+
+    ghost invariant = { λ s. sinces_of s.chooser ≡ sinces_in s.lines.items };
+}
+
+impl Scoreboard {
+    /// No requests, and all lags 0.
+    pub fn new(table: &Table) -> Scoreboard
+        ensures empty { result ≡ empty_scoreboard table.now }
+        ensures lines { AreLinesOf table.now result }
+        ensures earlier { AreBefore 0 result }
+    {
+        Scoreboard {
+            lines: lines_in(table, &[], None),
+            chooser: IndexChooser::new(),
+        }
+    }
+
+    /// Takes the votes of cycle `now`, below 100,000 and later than any that the scoreboard knows of, and decides what is done in it.
+    pub fn step(&mut self, table: &Table, now: u32, flags: &VotedFlags) -> Decision
+        requires cycle { now < 100000 }
+        requires earlier { AreBefore now self.old }
+        requires held { AreHeldBy table.now self.old }
+        ensures decision { result ≡ scoreboard_decision table.now now flags.now.items self.old }
+        ensures after { self.new ≡ scoreboard_after table.now now flags.now.items self.old }
+        ensures lines { AreLinesOf table.now self.new }
+        ensures earlier { AreBefore (now + 1) self.new }
+    {
+        self.mark(table, now, flags.as_slice());
+        let decision = self.decide(table, now, flags.as_slice());
+        self.end(&decision);
+        decision
+    }
+
+    /// The lines after the pattern of a cycle.
+    fn mark(&mut self, table: &Table, now: u32, flags: &[GroupFlags])
+        requires cycle { now < 100000 }
+        requires earlier { AreBefore now self.old }
+        requires held { AreHeldBy table.now self.old }
+        ensures after { self.new ≡ marked table.now flags.now now self.old }
+        ensures earlier { AreBefore (now + 1) self.new }
+    {
+        let lines = marked(table, flags, now, self.lines.as_slice());
+        hold(&mut self.chooser, table, lines.as_slice());
+        self.lines = lines;
+    }
+
+    /// What is done in the cycle.
+    #[tactic(auto, unfolding(crate::specs::Choice::decision_of))]
+    fn decide(&self, table: &Table, now: u32, flags: &[GroupFlags]) -> Decision
+        requires { AreBefore (now + 1) self.now }
+        ensures { result ≡ decision_of table.now flags.now now self.now }
+    {
+        let lines = self.lines.as_slice();
+        let eligible = choosable(table, flags, now, lines);
+        match self.chooser.oldest(&eligible) {
+            Some((vid, _)) => decided(table, flags, now, lines, vid),
+            None => Decision::Idle,
+        }
+    }
+
+    /// Ends the request that the decision takes.
+    fn end(&mut self, decision: &Decision)
+        ensures { self.new ≡ after_decision decision.now self.old }
+    {
+        match taken(decision) {
+            Some(vid) => {
+                end_request(self.lines.as_mut_slice(), vid);
+                self.chooser.clear(vid);
+            }
+            None => {}
+        }
+    }
+
+    /// Goes over to a table that an update of one group gave: that group has no request and no lags.
+    pub fn after_update(&mut self, table: &Table, vid: u8)
+        requires { AreOthersHeldBy table.now vid self.old }
+        ensures after { self.new ≡ after_update table.now vid self.old }
+        ensures lines { AreLinesOf table.now self.new }
+        ensures earlier { (now : ℕ) → AreBefore now self.old → AreBefore now self.new }
+    {
+        let lines = lines_in(table, self.lines.as_slice(), Some(vid));
+        self.lines = lines;
+        self.chooser.clear(vid);
+    }
+
+    /// The request of a group with its since, None exactly where it has none.
+    pub fn request(&self, vid: u8) -> Option<(Descriptor, u32)>
+        ensures { result ≡ request_of self.now vid }
+    {
+        match line_of(self.lines.as_slice(), vid).request {
+            Some((desc, since, _)) => Some((desc, since)),
+            None => None,
+        }
+    }
+
+    /// For how many cycles in a row the receiver of a group's request had no most space, None exactly where it has no request.
+    pub fn starved(&self, vid: u8) -> Option<u32>
+        ensures { result ≡ starved_of self.now vid }
+    {
+        match line_of(self.lines.as_slice(), vid).request {
+            Some((_, _, starved)) => Some(starved),
+            None => None,
+        }
+    }
+
+    /// For how many cycles in a row a member said full while its group had most space; `index` is below 4.
+    pub fn lag(&self, vid: u8, index: u8) -> u32
+        requires { index < 4 }
+        ensures { result ≡ lag_of self.now vid index }
+    {
+        line_of(self.lines.as_slice(), vid).lags[usize::from(index)]
+    }
+
+    /// The lines of a table's groups, in order.
+    pub fn snapshot(&self, table: &Table) -> Row<StateRow, 40>
+        ensures lines { result.items ≡ lines_for table.now self.now }
+        ensures same { AreLinesOf table.now self.now → result.items ≡ self.now }
+    {
+        lines_in(table, self.lines.as_slice(), None)
+    }
+
+    /// Takes over the lines of a table's groups, as they stand before cycle `next`.
+    pub fn restore(&mut self, table: &Table, rows: &Row<StateRow, 40>, next: u32)
+        requires lines { AreLinesOf table.now rows.now.items }
+        requires earlier { AreBefore next rows.now.items }
+        ensures lines { self.new ≡ rows.now.items }
+    {
+        let mut lines: Row<StateRow, 40> = Row::new();
+        lines.try_extend_from_slice(rows.as_slice()).unwrap();
+        self.chooser = IndexChooser::new();
+        hold(&mut self.chooser, table, rows.as_slice());
+        self.lines = lines;
+    }
+}
+
+/// The line of a group, blank where it is the group that was updated.
+fn line_in(lines: &[StateRow], updated: Option<u8>, vid: u8) -> StateRow
+    ensures { result ≡ line_but lines.now updated vid }
+{
+    match updated {
+        Some(named) if vid == named => blank_line(named),
+        _ => line_of(lines, vid),
+    }
+}
+
+/// The lines of a table's groups, in order, blank for the group that was updated.
+fn lines_in(table: &Table, lines: &[StateRow], updated: Option<u8>) -> Row<StateRow, 40>
+    ensures lines { result.items ≡ lines_but table.now lines.now updated }
+    ensures valid { IsValid table.now }
+{
+    let mut rows: Row<StateRow, 40> = Row::new();
+    for group in groups_in(table) {
+        rows.push(line_in(lines, updated, group.vid));
+    }
+    rows
+}
+
+/// Ends the request of a group.
+fn end_request(lines: &mut [StateRow], vid: u8)
+    ensures { lines.new ≡ without_request vid lines.old }
+{
+    for line in lines.iter_mut() {
+        if line.vid == vid {
+            line.request = None;
+        }
+    }
+}
+
+/// Holds the request of each line since its cycle, and no other.
+fn hold(chooser: &mut IndexChooser, table: &Table, lines: &[StateRow])
+    requires lines { AreLinesOf table.now lines.now }
+    requires known { (vid : ℕ) → is_held (sinces_of chooser.old) vid ≡ true → is_some (group_named table.now vid) ≡ true }
+    ensures { sinces_of chooser.new ≡ sinces_in lines.now }
+{
+    for (place, group) in groups_in(table).iter().enumerate() {
+        match lines[place].request {
+            Some((_, since, _)) => chooser.set(group.vid, since),
+            None => chooser.clear(group.vid),
+        }
+    }
+}
