@@ -27,7 +27,8 @@ use Rattle.run.proofs.Accepted.{HasRow}
 use Rattle.data_exchange.proofs.AlikeEntry.{IsAlike, entry-alike}
 use Rattle.run.proofs.AloneLaws.{pattern_in, decision_in, packets_in, size_of}
 use Rattle.run.proofs.DecisionLaws.{Serves, IfExchange, decision_serves}
-use Rattle.run.proofs.EqualLaws.{holds_head, admitted_holds, common-all, common-posted, alike_parts, small_by}
+use Rattle.data_exchange.proofs.CommonHead.{common-all, alike_parts}
+use Rattle.run.proofs.Admitted.{holds_head, admitted_holds, common-posted, small_by}
 use Rattle.data_exchange.proofs.FaultFree.{fault_free-live}
 use Rattle.run.proofs.Heads.{voted-holder}
 use Rattle.run.proofs.RoundShapes.{IsHead, head_posted}

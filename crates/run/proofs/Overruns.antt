@@ -31,7 +31,7 @@ use Rattle.run.specs.Laws.{OverrunsOnlyFull}
 use Rattle.run.proofs.PortLaws.{IsAt, IsAt-member_at}
 use Rattle.run.proofs.Sound.{before_sound}
 use Rattle.run.proofs.DecisionLaws.{IfExchange, HasVid, HasVid-named, flags_named-voted}
-use Rattle.run.proofs.EqualLaws.{below_eight, small_by}
+use Rattle.run.proofs.Admitted.{below_eight, small_by}
 use Rattle.run.proofs.AloneLaws.{pattern_in, decision_in, packets_in, entries_in, handed_in, size_of}
 use Rattle.run.proofs.OverrunLaws.{Overran, handed_overran, service_input, Receives, receives_found, not_three, IsGranted, decision_granted, granted_seats, IsSeat, live_seats_are, seat_found, one_place, lag-without}
 use Rattle.run.proofs.Accepted.{slice_get-all}

@@ -1,5 +1,5 @@
 -- A lawful request that is held alike is served within its longest wait, while its receiver keeps space.
-use Rattle.std.proofs.Common.{◌≡◌, ℕ, suc, zero, ◌+◌, ◌-◌, ◌<◌, ◌≤◌, true, false, List, [], ◌∷◌, length, refl, ap, sym, ◌∙◌, arith, subst}
+use Rattle.std.proofs.Common.{◌≡◌, ℕ, suc, zero, ◌+◌, ◌-◌, ◌<◌, ◌≤◌, true, false, List, length, refl, ap, sym, ◌∙◌, arith, subst}
 use Rattle.std.specs.Prelude.{Option, Some, None, All}
 use Rattle.std.proofs.lemmas.Option.{MatchOption-at_some}
 use Rattle.ftpp_base.specs.declared.element.Proc.{Proc}
@@ -25,10 +25,10 @@ use Rattle.run.proofs.RunLaws.{state_at-suc}
 use Rattle.run.proofs.QueueLaws.{BeginsWith, acts_kept, deliveries_kept, service_other, live_member}
 use Rattle.run.proofs.StepLaws.{IsOld, old_line, is_step, leaves, dated_at}
 use Rattle.run.proofs.Calm.{state_at-cycle}
-use Rattle.run.proofs.ShownFields.{faulty_by}
+use Rattle.run.proofs.ShownFields.{faulty_stays}
 use Rattle.run.proofs.AlikeFlags.{pattern_in, voted_alike, takes_but}
 use Rattle.run.proofs.Chosen.{flags_named-group}
-use Rattle.run.proofs.EqualLaws.{alike_parts, common-all}
+use Rattle.data_exchange.proofs.CommonHead.{alike_parts, common-all}
 
 -- ---- a head that is held alike
 
@@ -45,16 +45,6 @@ alike faulty heads g posted e =
       majority = parts.0;
       each = λ p i. item_all (λ q. heads q ≡ Some posted) (fault_free_members faulty g) p (common-all heads posted (fault_free_members faulty g) parts.1) i;
     }
-
--- ---- the faulty element stays
-
--- while none rejoins
-pub faulty_stays : (first : Option ℕ) (journal : Journal) (k : ℕ) → IsJournal first journal → suc k < length journal → (input_at journal (suc k)).rejoined ≡ None
-    → (input_at journal (suc k)).faulty ≡ (input_at journal k).faulty
-faulty_stays first [] k h l e = let never : ⊥ = omega arith in absurd never
-faulty_stays first (i ∷ []) k h l e = let never : ⊥ = omega arith in absurd never
-faulty_stays first (i ∷ j ∷ rest) zero h l e = faulty_by i.faulty j.faulty j.rejoined e h.1.0
-faulty_stays first (i ∷ j ∷ rest) (suc k) h l e = faulty_stays i.faulty (j ∷ rest) k h.1 (omega arith) e
 
 -- ---- a request of a run
 

@@ -122,9 +122,17 @@ service-counted table journal vid k shown e =
 -- ---- a journal without a rejoin
 
 -- without a rejoin the faulty element stays
-pub faulty_by : (before faulty rejoined : Option ℕ) → rejoined ≡ None → Follows before rejoined faulty → faulty ≡ before
+faulty_by : (before faulty rejoined : Option ℕ) → rejoined ≡ None → Follows before rejoined faulty → faulty ≡ before
 faulty_by before faulty None e h = h
 faulty_by before faulty (Some ne) e h = cc
+
+-- from one cycle to the next it stays, while none rejoins
+pub faulty_stays : (first : Option ℕ) (journal : Journal) (k : ℕ) → IsJournal first journal → suc k < length journal → (input_at journal (suc k)).rejoined ≡ None
+    → (input_at journal (suc k)).faulty ≡ (input_at journal k).faulty
+faulty_stays first [] k h l e = let never : ⊥ = omega arith in absurd never
+faulty_stays first (i ∷ []) k h l e = let never : ⊥ = omega arith in absurd never
+faulty_stays first (i ∷ j ∷ rest) zero h l e = faulty_by i.faulty j.faulty j.rejoined e h.1.0
+faulty_stays first (i ∷ j ∷ rest) (suc k) h l e = faulty_stays i.faulty (j ∷ rest) k h.1 (omega arith) e
 
 -- the same element is faulty in every cycle
 pub journal-faulty : (faulty : Option ℕ) (journal : Journal) (t : ℕ) → IsJournal faulty journal → ((k : ℕ) → k < length journal → (input_at journal k).rejoined ≡ None) → t < length journal → (input_at journal t).faulty ≡ faulty

@@ -24,7 +24,7 @@ use Rattle.run.specs.Laws.{AlwaysSourced}
 use Rattle.run.proofs.PortLaws.{IsAt, IsAt-member_at}
 use Rattle.run.proofs.Sound.{before_sound}
 use Rattle.run.proofs.DecisionLaws.{Serves, IfExchange, decision_serves}
-use Rattle.run.proofs.EqualLaws.{holds_set, below_eight, small_by}
+use Rattle.run.proofs.Admitted.{holds_set, below_eight, small_by}
 use Rattle.run.proofs.Equal.{entry_there}
 use Rattle.run.proofs.AloneLaws.{pattern_in, decision_in, packets_in, size_of}
 use Rattle.config_table.proofs.NamedGroups.{AreApart-named, InRange, InRange-named, elements-kept}

@@ -1,4 +1,4 @@
--- The entries of an exchange that is not split are equal at all fault-free elements.
+-- Who holds a request by the agreed pattern, and so is admitted.
 use Rattle.std.proofs.Common.{◌≡◌, ℕ, ◌<◌, false, List, [], ◌∷◌, ap, arith, map, ◌∙◌, subst, inl, inr}
 use Rattle.std.specs.Prelude.{Option, Some, is_some, option_map, unwrap_or, ◌&&◌, filter}
 use Rattle.std.specs.List.{AllByRecursion}
@@ -24,7 +24,7 @@ use Rattle.ftpp_base.proofs.Among.{all-both, each}
 use Rattle.run.proofs.Heads.{entry-own}
 use Rattle.data_exchange.proofs.AlikeEntry.{member_at-apart}
 use Rattle.two_round.proofs.Others.{IsSize}
-pub use Rattle.data_exchange.proofs.CommonHead.{common-all, alike_parts}
+use Rattle.data_exchange.proofs.CommonHead.{common-all}
 
 -- ---- what the pattern says of a fault-free processor
 
@@ -69,7 +69,7 @@ member_at-own ps a = each (λ p. member_at ps p.ne ≡ Some p) ps (λ p c. membe
 
 -- ---- one head that all have
 
--- so it is a whole packet
+-- the one head that all have is a whole packet
 pub common-posted : (heads : Proc → Option Posted) (head : Posted) (ps : List Proc) → ((p : Proc) → IsHead (heads p)) → common_head (map heads ps) ≡ Some head → IsHead (Some head)
 common-posted heads head [] is e = cc
 common-posted heads head (p ∷ ps) is e = subst IsHead (common-all heads head (p ∷ ps) e).0 (is p)
