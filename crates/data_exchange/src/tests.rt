@@ -1,3 +1,5 @@
+ghost use Rattle.std.specs.Prelude.{◌≡◌, IfSome};
+
 use super::*;
 use bit_vote::Cells;
 use config_table::{Group, Kind, Service, Table};
@@ -32,7 +34,16 @@ fn groups() -> [Group; 3] {
     ]
 }
 
-fn service(vid: u8, class: u8, kind: Kind, admitted: u8) -> Service {
+fn table() -> Option<Table>
+    ensures { IfSome result (λ t. t.n ≡ 4) }
+{
+    let table = Table::new(4, 1, &groups()).ok()?;
+    if table.n() == 4 { Some(table) } else { None }
+}
+
+fn service(vid: u8, class: u8, kind: Kind, admitted: u8) -> Service
+    ensures { result.kind ≡ kind }
+{
     Service {
         vid,
         desc: Descriptor {
@@ -57,8 +68,8 @@ fn packet(first: u8) -> Option<Packet> {
 }
 
 #[test]
-fn copies_of_three_members_are_voted(rt: HostRuntime) {
-    let table = Table::new(4, 1, &groups()).expect(&rt, "a valid table");
+fn copies_of_three_members_are_voted(rt: HostRuntime) -> Result<(), Fail> {
+    let table = table().ok_or("table")?;
     let three = service(3, 1, Kind::Voted, 0b1110);
     let mut copies = Cells::absent();
     copies.set(1, row(0xff));
@@ -71,6 +82,7 @@ fn copies_of_three_members_are_voted(rt: HostRuntime) {
     let none = service(3, 1, Kind::Voted, 0);
     copies.set(2, row(0xff));
     assert_eq!(rt; one_round::<4>(&table, &none, &copies), None);
+    Ok(())
 }
 
 /// What element 0 holds, where the elements 0 and 1 send a row and every other element relays it.
@@ -92,7 +104,7 @@ fn heard(first: Option<[u8; 64]>, second: Option<[u8; 64]>) -> Option<TwoRound<4
 
 #[test]
 fn results_of_two_members_are_voted(rt: HostRuntime) -> Result<(), Fail> {
-    let table = Table::new(4, 1, &groups()).expect(&rt, "a valid table");
+    let table = table().ok_or("table")?;
     let two = service(2, 3, Kind::Every, 0b0011);
     let both = heard(row(0x55), row(0x55)).ok_or("elements")?;
     assert_eq!(rt; every_member_result(&table, &two, &both), packet(0x55));
