@@ -1,5 +1,5 @@
 -- One cycle more of a run.
-use Rattle.std.proofs.Common.{◌≡◌, ℕ, zero, suc, ◌+◌, ◌-◌, ◌<◌, ◌≤◌, Bool, true, false, cond, List, [], ◌∷◌, ◌++◌, length, map, take, refl, ap, sym, subst, ◌∙◌, arith, eq-eqb, append_assoc, append-nil, length-append, add-one, Option, Some, None, IsTrue}
+use Rattle.std.proofs.Common.{◌≡◌, ℕ, zero, suc, ◌+◌, ◌-◌, ◌<◌, ◌≤◌, Bool, true, false, List, [], ◌∷◌, ◌++◌, length, take, refl, ap, sym, subst, ◌∙◌, arith, eq-eqb, append_assoc, append-nil, length-append, add-one, Option, Some, None}
 use Rattle.std.specs.Prelude.{All, nat_lt, ◌&&◌, ◌==◌, Result, Ok, Err, OnOk, OnErr}
 use Rattle.ftpp_base.specs.Lists.{is_in}
 use Rattle.std.specs.List.{flat_map}
@@ -13,7 +13,7 @@ use Rattle.packet_format.specs.declared.Act.{Act}
 use Rattle.packet_format.specs.declared.Act.TheVariants.{Post, Read}
 use Rattle.cluster.specs.declared.requests.Line.{Line}
 use Rattle.cluster.specs.declared.requests.Request.{Request}
-use Rattle.cluster.specs.Requests.{vids_in, is_line_of, marked_line, marked, ended_line, ended}
+use Rattle.cluster.specs.Requests.{vids_in, is_line_of, marked, ended_line, ended}
 use Rattle.cluster.specs.Plain.{State, start, after_cycle, report_of, lines_for, chosen_now, lines_now, queues_now, is_post, IsPost}
 use Rattle.processor_buffers.specs.Queues.{Queues}
 use Rattle.ftpp_top.specs.declared.totals.Totals.{Totals}

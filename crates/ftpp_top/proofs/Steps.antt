@@ -1,6 +1,6 @@
 -- One line more.
-use Rattle.std.proofs.Common.{◌≡◌, ℕ, ◌+◌, ◌<◌, ◌≤◌, List, [], ◌∷◌, length, map, refl, ap, sym, ◌∙◌, arith, Some, None, Ok, Err, Option, Result}
-use Rattle.std.specs.Prelude.{count_by, IfSome}
+use Rattle.std.proofs.Common.{◌≡◌, ℕ, ◌+◌, ◌<◌, ◌≤◌, List, ◌∷◌, length, map, refl, ap, sym, ◌∙◌, arith, Some, None, Ok, Err, Option, Result}
+use Rattle.std.specs.Prelude.{count_by}
 use Rattle.std.specs.List.{slice_split}
 use Rattle.std.proofs.lemmas.List.Splits.{length-slice_split}
 use Rattle.std.proofs.lemmas.List.Sums.{count_by-le-length}
@@ -10,8 +10,9 @@ use Rattle.ftpp_top.specs.declared.script.Item.{Item}
 use Rattle.ftpp_top.specs.declared.script.Script.{Script}
 use Rattle.ftpp_top.specs.declared.script.ScriptError.{ScriptError}
 use Rattle.ftpp_top.specs.declared.script.ScriptError.TheVariants.{At, Memory}
-use Rattle.ftpp_top.specs.Lines.{is_newline, words_of, lines_of, pieces_left}
-use Rattle.ftpp_top.specs.Script.{SoFar, at_start, IsWithin, line_read, after_item, after_line, after_lines, Keeps, Takes, TakesAll, plan_from, script_of, Reads}
+use Rattle.script_words.specs.Lines.{is_newline, words_of, lines_of, pieces_left}
+use Rattle.ftpp_top.specs.Fields.{refused}
+use Rattle.ftpp_top.specs.Script.{SoFar, at_start, IsWithin, line_read, after_line, after_lines, Takes, TakesAll, plan_from, script_of, Reads}
 
 -- what is known between two lines
 pub record Walks (bytes : List ℕ) (s : SoFar) (rest : Option (List ℕ)) (line : ℕ) : Type 0 where
@@ -26,7 +27,7 @@ goes : (s : SoFar) (line : ℕ) (front : List ℕ) (more : List (List ℕ)) (ite
 unfolding after_lines
 goes s line front more item e = rw e refl
 
-stops : (s : SoFar) (line : ℕ) (front : List ℕ) (more : List (List ℕ)) (code : ℕ) → line_read s (words_of front) ≡ Err code → after_lines s line (front ∷ more) ≡ Err (record { line = line; code = code })
+stops : (s : SoFar) (line : ℕ) (front : List ℕ) (more : List (List ℕ)) (code : ℕ) → line_read s (words_of front) ≡ Err code → after_lines s line (front ∷ more) ≡ Err (record { line = line; code = refused })
 unfolding after_lines
 stops s line front more code e = rw e refl
 
@@ -50,7 +51,7 @@ end_with : (bytes : List ℕ) (old new : SoFar) (text front : List ℕ) (rest : 
 end_with bytes old new text front rest line (Err code) Memory w cut e h = tt
 end_with bytes old new text front rest line (Err code) (At l k) w cut e h =
     let is-line : l ≡ line + 1 = cc in
-    let is-code : k ≡ code = cc in
+    let is-code : k ≡ refused = cc in
     rw (is-line, is-code) (sym w.same ∙ ap (λ ps. after_lines old (line + 1) (map strip_carriage_return ps)) cut ∙ stops old (line + 1) (strip_carriage_return front) (map strip_carriage_return (pieces_left rest)) code e)
 end_with bytes old new text front rest line (Ok None) why w cut e h = absurd cc
 end_with bytes old new text front rest line (Ok (Some item)) Memory w cut e h = tt

@@ -1,9 +1,6 @@
 -- Totals, one entry and one report more.
-use Rattle.std.proofs.Common.{◌≡◌, ℕ, ◌+◌, ◌<◌, Bool, true, false, cond, List, [], ◌∷◌, ◌++◌, length, take, get_or, refl, ap, sym, ◌∙◌, arith}
-use Rattle.std.specs.Prelude.{count_by}
-use Rattle.std.specs.List.{fold}
+use Rattle.std.proofs.Common.{◌≡◌, ◌+◌, true, false, List, [], ◌∷◌, ◌++◌, refl}
 use Rattle.std.proofs.lemmas.Grind.{fold-append}
-use Rattle.ftpp_base.specs.declared.element.Proc.{Proc}
 use Rattle.processor_buffers.specs.declared.Handed.{Handed}
 use Rattle.processor_buffers.specs.declared.Handed.TheVariants.{Stored, Overrun}
 use Rattle.cluster.specs.declared.report.PlainReport.{PlainReport}

@@ -1,5 +1,5 @@
 -- What a call of `top` answers and writes.
-use Rattle.std.specs.Prelude.{◌≡◌, ℕ, ◌≤◌, ◌⊎◌, Bool, false, nat_lt, List, [], ◌∷◌, ◌++◌, take, length, codes, Option, Result, Ok, Err, if◌then◌else◌}
+use Rattle.std.specs.Prelude.{◌≡◌, ℕ, ◌≤◌, ◌⊎◌, Bool, false, nat_lt, List, [], ◌∷◌, take, length, codes, Option, Result, Ok, Err, if◌then◌else◌}
 use Rattle.packet_format.specs.Packets.{same_bytes}
 use Rattle.ftpp_outside.specs.Told.{Adds}
 use Rattle.ftpp_top.specs.declared.status.Status.{Status}

@@ -2,7 +2,6 @@
 pub mod Acts
 pub mod Ends
 pub mod Fields
-pub mod Lines
 pub mod Run
 pub mod Script
 pub mod Tables

@@ -1,5 +1,5 @@
 -- A script as its lines say, one after another, or its first refused line.
-use Rattle.std.specs.Prelude.{◌≡◌, ℕ, ◌+◌, ◌<◌, ◌≤◌, Bool, ◌&&◌, ◌==◌, nat_lt, nat_le, List, [], ◌∷◌, ◌++◌, codes, count_by, Option, Some, None, is_some, Result, Ok, Err, if◌then◌else◌}
+use Rattle.std.specs.Prelude.{◌≡◌, ℕ, ◌+◌, ◌<◌, ◌≤◌, ◌&&◌, ◌==◌, nat_lt, nat_le, List, [], ◌∷◌, ◌++◌, codes, count_by, Option, Some, None, is_some, Result, Ok, Err, if◌then◌else◌}
 use Rattle.packet_format.specs.declared.Act.{Act}
 use Rattle.packet_format.specs.declared.Act.TheVariants.{Post, Read}
 use Rattle.ftpp_top.specs.declared.script.Item.{Item}
@@ -8,8 +8,9 @@ use Rattle.ftpp_top.specs.declared.script.Reader.{Reader}
 use Rattle.ftpp_top.specs.declared.script.Script.{Script}
 use Rattle.ftpp_top.specs.declared.script.ScriptError.{ScriptError}
 use Rattle.ftpp_top.specs.declared.script.ScriptError.TheVariants.{At, Memory}
-use Rattle.ftpp_top.specs.Lines.{is_newline, is_skipped, words_of, lines_of}
-use Rattle.ftpp_top.specs.Fields.{refused, ◌>>=◌, is_word, number_of, number_within, proc_of, packet_of}
+use Rattle.script_words.specs.Lines.{is_newline, is_skipped, words_of, lines_of}
+use Rattle.script_words.specs.Fields.{◌>>=◌, is_word, number_of, proc_of, packet_of}
+use Rattle.ftpp_top.specs.Fields.{refused, number_within}
 
 -- What the lines so far say: the length of the run, what is posted in which cycle, in order, and
 -- of the last of these cycles how many posts there are.
@@ -56,7 +57,7 @@ post_line s cycle proc dest class source packet = do
   total ← length_of s
   c ← number_of cycle
   at ← in_order s total c
-  p ← proc_of proc
+  p ← proc_of 4 proc
   d ← number_within 1 5 dest
   k ← number_within 1 1 class
   i ← number_within 0 255 source
@@ -93,10 +94,10 @@ pub record Refusal : Type 0 where
   pub line : ℕ
   pub code : ℕ
 
--- the code is that of this line
+-- every line that is not taken has one code
 abbrev pub at_line : {A : Type 0} → ℕ → Result A ℕ → Result A Refusal
 at_line line (Ok x) = Ok x
-at_line line (Err code) = Err (record { line = line; code = code })
+at_line line (Err code) = Err (record { line = line; code = refused })
 
 -- what is known after these lines, of which the first has this number
 unfoldable pub after_lines : SoFar → ℕ → List (List ℕ) → Result SoFar Refusal
@@ -151,7 +152,7 @@ Keeps old item (Err e) new = e ≡ Memory
 
 -- what a line does
 abbrev pub Takes : SoFar → Result (Option Item) ℕ → ℕ → Result Unit ScriptError → SoFar → Type 0
-Takes old (Err code) line r new = r ≡ Err (At line code)
+Takes old (Err code) line r new = r ≡ Err (At line refused)
 Takes old (Ok None) line r new = (r ≡ Ok tt) × (new ≡ old)
 Takes old (Ok (Some item)) line r new = Keeps old item r new
 

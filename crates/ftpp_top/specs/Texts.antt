@@ -1,5 +1,5 @@
 -- The texts of a report, as lists of bytes.
-use Rattle.std.specs.Prelude.{ℕ, ◌+◌, ◌*◌, ◌≤◌, List, [], ◌++◌, codes, filter, count_by, Bool, true, false}
+use Rattle.std.specs.Prelude.{ℕ, ◌+◌, ◌*◌, ◌≤◌, List, ◌++◌, codes, filter, count_by, Bool, true, false}
 use Rattle.std.specs.List.{flat_map, fold}
 use Rattle.std.specs.Fmt.{decimal}
 use Rattle.ftpp_base.specs.Lists.{below}

@@ -13,7 +13,6 @@ mod tables;
 mod tests;
 mod text;
 mod totals;
-mod words;
 
 pub use call::top;
 pub use status::Status;

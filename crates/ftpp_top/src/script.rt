@@ -4,12 +4,13 @@ ghost use Rattle.std.specs.Prelude.{◌≡◌, ◌+◌, ◌<◌, ◌≤◌, leng
 ghost use Rattle.ftpp_top.specs.Acts.{IsSound, IsPlayable};
 ghost use Rattle.std.specs.Str.Lines.{strip_carriage_return};
 ghost use Rattle.ftpp_top.specs.declared.script.ScriptError.TheVariants.{Memory};
-ghost use Rattle.ftpp_top.specs.Lines.{words_of};
+ghost use Rattle.script_words.specs.Lines.{words_of};
 ghost use Rattle.ftpp_top.specs.Script.{at_start, held, length_of, in_order, asked_at, with_room, cycles_line, post_line, at_item, line_item, line_read, script_of, plan_from, plan_of, IsPosted, IsWithin, IsLawful, Keeps, Takes, TakesAll, Reads};
 
-use crate::fields::{REFUSED, is_named, number, number_between, packet, processor};
-use crate::words::{cut_line, without_carriage_return, words};
+use crate::fields::{REFUSED, number_between, processor};
 use packet_format::{Act, Descriptor};
+use script_words::fields::{is_named, number, packet};
+use script_words::lines::{cut_line, without_carriage_return, words};
 use std::alloc::{AllocFailed, Global};
 
 /// What is asked of a run: its length, and what is posted in which cycle, in order.
@@ -233,7 +234,10 @@ impl Reader {
         ensures taken { Takes (held self.old) (line_read (held self.old) (words_of (strip_carriage_return line.now))) number result (held self.new) }
     {
         match self.line(line) {
-            Err(code) => Err(ScriptError::At { line: number, code }),
+            Err(_) => Err(ScriptError::At {
+                line: number,
+                code: REFUSED,
+            }),
             Ok(None) => Ok(()),
             Ok(Some(item)) => self.keep(item),
         }

@@ -1,4 +1,4 @@
-use Rattle.std.proofs.Common.{◌≡◌, ◌∷◌, arith, rules}
+use Rattle.std.proofs.Common.{◌≡◌, ◌∷◌, rules}
 use Rattle.ftpp_top.proofs.Due.{IsDue, IsTaken, due_stops}
 use Rattle.ftpp_top.proofs.run.due.Goals as goal
 

@@ -1,4 +1,4 @@
-use Rattle.std.proofs.Common.{◌≡◌, ◌<◌, arith}
+use Rattle.std.proofs.Common.{◌≡◌, arith}
 use Rattle.ftpp_top.specs.Script.{plan_of}
 use Rattle.ftpp_top.proofs.Due.{IsTaken}
 use Rattle.ftpp_top.proofs.Plays.{plays_posts, plays_more, plays_fails, plays_ends, plays_cut, plays_at, on_ok, on_err, on_err_always}
