@@ -26,13 +26,8 @@ fn number_at(table: &Table, name: &str, at: Place, top: u16) -> Result<u16, Text
     ensures value { result ≡ required at (number_of top) (get_member name.now (table_view table.now)) }
     ensures within { IfOk result (λ n. n ≤ top) }
 {
-    match lookup(table, name) {
-        None => Err(TextError::Key(at)),
-        Some(value) => match number(value, top) {
-            Some(n) => Ok(n),
-            None => Err(TextError::Kind(at)),
-        },
-    }
+    let value = lookup(table, name).ok_or(TextError::Key(at))?;
+    number(value, top).ok_or(TextError::Kind(at))
 }
 
 /// The number at a key, or another one where it is absent.
@@ -43,10 +38,7 @@ fn number_or(table: &Table, name: &str, at: Place, top: u16, absent: u16) -> Res
 {
     match lookup(table, name) {
         None => Ok(absent),
-        Some(value) => match number(value, top) {
-            Some(n) => Ok(n),
-            None => Err(TextError::Kind(at)),
-        },
+        Some(value) => number(value, top).ok_or(TextError::Kind(at)),
     }
 }
 
@@ -55,13 +47,8 @@ pub(crate) fn version_in(table: &Table) -> Result<u16, TextError>
     ensures { result ≡ version_in (table_view table.now) }
 {
     let at = at_top(ConfigKey::Version);
-    match lookup(table, "version") {
-        None => Err(TextError::Key(at)),
-        Some(value) => match version_number(value) {
-            Some(n) => Ok(n),
-            None => Err(TextError::Kind(at)),
-        },
-    }
+    let value = lookup(table, "version").ok_or(TextError::Key(at))?;
+    version_number(value).ok_or(TextError::Kind(at))
 }
 
 #[tactic(auto, unfolding(crate::specs::Reading::elements_in))]
@@ -85,23 +72,17 @@ pub(crate) fn groups_in(table: &Table) -> Result<&Array, TextError>
     ensures { MatchResult result (λ a. groups_in (table_view table.now) ≡ Ok (array_view a.now)) (λ e. groups_in (table_view table.now) ≡ Err e) }
 {
     let at = at_top(ConfigKey::Groups);
-    match lookup(table, "group") {
-        None => Err(TextError::Key(at)),
-        Some(value) => match value.as_array() {
-            Some(array) => Ok(array),
-            None => Err(TextError::Kind(at)),
-        },
-    }
+    let value = lookup(table, "group").ok_or(TextError::Key(at))?;
+    value.as_array().ok_or(TextError::Kind(at))
 }
 
 #[tactic(auto, unfolding(crate::specs::Reading::table_at))]
 pub(crate) fn table_at(at: usize, value: &Value) -> Result<&Table, TextError>
     ensures { MatchResult result (λ t. table_at at (view value.now) ≡ Ok (table_view t.now)) (λ e. table_at at (view value.now) ≡ Err e) }
 {
-    match value.as_table() {
-        Some(table) => Ok(table),
-        None => Err(TextError::Kind(in_group(at, ConfigKey::Groups))),
-    }
+    value
+        .as_table()
+        .ok_or(TextError::Kind(in_group(at, ConfigKey::Groups)))
 }
 
 #[tactic(auto, unfolding(crate::specs::Reading::vid_in))]
@@ -117,13 +98,8 @@ pub(crate) fn members_in(table: &Table, at: usize) -> Result<Row<Proc, 4>, TextE
     ensures { result ≡ members_in at (table_view table.now) }
 {
     let at = in_group(at, ConfigKey::Members);
-    match lookup(table, "members") {
-        None => Err(TextError::Key(at)),
-        Some(value) => match procs_of(value) {
-            Some(procs) => Ok(procs),
-            None => Err(TextError::Kind(at)),
-        },
-    }
+    let value = lookup(table, "members").ok_or(TextError::Key(at))?;
+    procs_of(value).ok_or(TextError::Kind(at))
 }
 
 #[tactic(auto, unfolding(crate::specs::Reading::ts_in))]
@@ -146,10 +122,7 @@ pub(crate) fn masked_in(table: &Table, at: usize) -> Result<Set8, TextError>
 {
     match lookup(table, "masked") {
         None => Ok(Set8 { bits: 0 }),
-        Some(value) => match set_of(value) {
-            Some(set) => Ok(set),
-            None => Err(TextError::Kind(in_group(at, ConfigKey::Masked))),
-        },
+        Some(value) => set_of(value).ok_or(TextError::Kind(in_group(at, ConfigKey::Masked))),
     }
 }
 

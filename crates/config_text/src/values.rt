@@ -15,15 +15,11 @@ pub(crate) fn number(value: &Value, top: u16) -> Option<u16>
     ensures value { result ≡ number_of top (view value.now) }
     ensures within { IfSome result (λ n. n ≤ top) }
 {
-    match value.as_integer() {
-        Some(n) => {
-            if 0 <= n && n <= i64::from(top) {
-                Some(n as u16)
-            } else {
-                None
-            }
-        }
-        None => None,
+    let n = value.as_integer()?;
+    if 0 <= n && n <= i64::from(top) {
+        Some(n as u16)
+    } else {
+        None
     }
 }
 
@@ -33,10 +29,8 @@ pub(crate) fn version_number(value: &Value) -> Option<u16>
     ensures value { result ≡ version_of (view value.now) }
     ensures within { IfSome result (λ n. n ≤ 2) }
 {
-    match number(value, 255) {
-        Some(n) => { if n == 1 || n == 2 { Some(n) } else { None } }
-        None => None,
-    }
+    let n = number(value, 255)?;
+    if n == 1 || n == 2 { Some(n) } else { None }
 }
 
 fn is_digit(b: u8) -> bool
@@ -68,10 +62,8 @@ fn proc_from(word: &[u8]) -> Option<Proc>
 fn proc_of(value: &Value) -> Option<Proc>
     ensures { result ≡ proc_of (view value.now) }
 {
-    match value.as_str() {
-        Some(text) => proc_from(text.as_bytes()),
-        None => None,
-    }
+    let text = value.as_str()?;
+    proc_from(text.as_bytes())
 }
 
 /// At most four processors.
@@ -96,10 +88,8 @@ fn few_procs(array: &Array) -> Option<Row<Proc, 4>>
 pub(crate) fn procs_of(value: &Value) -> Option<Row<Proc, 4>>
     ensures { result ≡ procs_of (view value.now) }
 {
-    match value.as_array() {
-        Some(array) => few_procs(array),
-        None => None,
-    }
+    let array = value.as_array()?;
+    few_procs(array)
 }
 
 fn set_from(array: &Array) -> Option<Set8>
@@ -119,8 +109,6 @@ fn set_from(array: &Array) -> Option<Set8>
 pub(crate) fn set_of(value: &Value) -> Option<Set8>
     ensures { result ≡ set_of (view value.now) }
 {
-    match value.as_array() {
-        Some(array) => set_from(array),
-        None => None,
-    }
+    let array = value.as_array()?;
+    set_from(array)
 }
