@@ -1,4 +1,4 @@
-ghost use Rattle.std.specs.Prelude.{IsTrue};
+ghost use Rattle.std.specs.Prelude.{◌≡◌, IsTrue};
 ghost use Rattle.fault_script.specs.Edited.{never_fall};
 
 use crate::{Adversary, Edit, EditKind, NoFault, Player};
@@ -13,7 +13,9 @@ fn frame(cycle: u8, sender: u8) -> FrameBuf {
     frame
 }
 
-fn edit(cycle: u32, round: Option<Round>, to: Option<Ne>, what: EditKind) -> Edit {
+fn edit(cycle: u32, round: Option<Round>, to: Option<Ne>, what: EditKind) -> Edit
+    ensures { result.cycle ≡ cycle }
+{
     Edit {
         cycle,
         round,
@@ -22,11 +24,13 @@ fn edit(cycle: u32, round: Option<Round>, to: Option<Ne>, what: EditKind) -> Edi
     }
 }
 
-fn flip(offset: u16, bits: u8) -> Edit {
+fn flip(offset: u16, bits: u8) -> Edit
+    ensures { result.cycle ≡ 1 }
+{
     edit(1, None, None, EditKind::Flip { offset, bits })
 }
 
-/// The last two bytes of the frame that is sent to element 2 in A1 of cycle 1, or how many came instead of eight.
+/// The last two bytes of the frame that is sent to element 2 in A1 of cycle 1, zeros where no bytes are sent.
 fn sent<A: Adversary>(adversary: &mut A) -> Result<(u8, u8), Fail> {
     let to = Ne::new(2, 4).ok_or("no element")?;
     let at = Slot {
@@ -38,7 +42,10 @@ fn sent<A: Adversary>(adversary: &mut A) -> Result<(u8, u8), Fail> {
     if got.len() == 8 {
         return Ok((got[6], got[7]));
     }
-    Ok((got.len() as u8, 0))
+    if got.is_empty() {
+        return Ok((0, 0));
+    }
+    Err("a frame of another length".into())
 }
 
 fn played(edits: &[Edit]) -> Result<(u8, u8), Fail>
