@@ -1,3 +1,5 @@
+ghost use Rattle.std.specs.Prelude.{◌≡◌, IfSome};
+
 use crate::{Fabric, Liar, Link, LinkEnd, Mesh, Recorder};
 use frame_format::FrameBuf;
 use ftpp_base::{Ne, Round, Slot};
@@ -14,7 +16,9 @@ fn frame(byte: u8) -> FrameBuf {
     frame
 }
 
-fn elements() -> Option<(Ne, Ne)> {
+fn elements() -> Option<(Ne, Ne)>
+    ensures { IfSome result (λ pair. (pair.0 ≡ 0) × (pair.1 ≡ 3)) }
+{
     Some((Ne::new(0, 4)?, Ne::new(3, 4)?))
 }
 
