@@ -69,6 +69,19 @@ impl LocalPattern {
         self.entries[usize::from(port)]
     }
 
+    /// What a port shows, and no request and no space for a number that is no port.
+    #[tactic(auto, using(std::proofs::lemmas::List::get_or_past))]
+    pub fn shown(&self, port: u8) -> Entry
+        ensures { result ≡ slice_index_or self.now port quiet }
+    {
+        let port = usize::from(port);
+        if port < self.entries.len() {
+            self.entries[port]
+        } else {
+            QUIET
+        }
+    }
+
     /// Changes what a port shows. An entry that is empty has a descriptor of zeros.
     pub fn set(&mut self, port: u8, entry: Entry)
         requires port { port < 8 }

@@ -3,6 +3,7 @@
 ghost use Rattle.std.specs.Prelude.{◌≡◌, ◌<◌, [], replicate, slice_set, slice_index_or};
 ghost use Rattle.local_pattern.specs.Pattern.{entry_of, quiet_column};
 
+use crate::spelling::QUIET;
 use crate::{Entry, LocalPattern};
 use ftpp_base::{Ne, Proc};
 use std::marker::Model;
@@ -59,5 +60,18 @@ impl<const N: usize> SystemPattern<N> {
         ensures { result ≡ entry_of self.now proc }
     {
         self.columns[usize::from(proc.ne)].entry(proc.port)
+    }
+
+    /// What a processor's port shows, and no request and no space for one that is not there.
+    #[tactic(auto, using(std::proofs::lemmas::List::get_or_past))]
+    pub fn shown(&self, proc: Proc) -> Entry
+        ensures { result ≡ entry_of self.now proc }
+    {
+        let ne = usize::from(proc.ne);
+        if ne < self.columns.len() {
+            self.columns[ne].shown(proc.port)
+        } else {
+            QUIET
+        }
     }
 }

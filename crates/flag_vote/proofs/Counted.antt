@@ -1,0 +1,113 @@
+-- Members that are gathered one after the other, and the flags that they make.
+use Rattle.std.proofs.Common.{◌≡◌, ℕ, ◌+◌, ◌<◌, ◌≤◌, Bool, true, false, cond, List, [], ◌∷◌, ◌++◌, length, map, drop, get_or, refl, ap, sym, ◌∙◌, arith, not, Option, Some, None, append_assoc}
+use Rattle.std.specs.Prelude.{◌==◌, ◌||◌, filter, find}
+use Rattle.std.specs.List.{enumerate_from}
+use Rattle.std.proofs.lemmas.List.{drop_more}
+use Rattle.std.proofs.lemmas.List.Folds.{list_any-append}
+use Rattle.std.proofs.lemmas.Bool.Decides.{nat_tests}
+use Rattle.ftpp_base.specs.Bits.{byte_where, most}
+use Rattle.ftpp_base.specs.Lists.{is_in}
+use Rattle.ftpp_base.specs.Sets.{has, set_of, with_number}
+use Rattle.ftpp_base.specs.declared.element.Proc.{Proc}
+use Rattle.ftpp_base.specs.declared.sets.Set8.{Set8}
+use Rattle.ftpp_base.proofs.SetLaws.{has-set_where, set_where-same}
+use Rattle.packet_format.specs.declared.Descriptor.{Descriptor}
+use Rattle.config_table.specs.Groups.{live_members, elements_of}
+use Rattle.config_table.specs.declared.groups.Group.{Group}
+use Rattle.flag_vote.specs.Flags.{Pattern, has_space, descriptor_of, holders, all_hold, voted_descriptor, flags_of}
+use Rattle.flag_vote.specs.Words.{unmasked_from, held_by, all_hold_it, most_hold, most_held, flags_on}
+
+-- ---- one member more
+
+keep_seat : (b : Bool) (i : ℕ) (p : Proc) (seats : List (ℕ × Proc))
+    → map (λ (seat : ℕ × Proc). seat.1) (cond (not b) ((i, p) ∷ seats) seats) ≡ cond (not b) (p ∷ []) [] ++ map (λ (seat : ℕ × Proc). seat.1) seats
+keep_seat true i p seats = refl
+keep_seat false i p seats = refl
+
+-- the members from a place on: the one there, if it is not masked, and the later ones
+pub unmasked_more : (s : Set8) (i : ℕ) (ms : List Proc) (d : Proc) → i < length ms
+    → unmasked_from s i (drop i ms) ≡ cond (not (has s i)) (get_or ms i d ∷ []) [] ++ unmasked_from s (i + 1) (drop (i + 1) ms)
+unmasked_more s i ms d l =
+    ap (unmasked_from s i) (drop_more ms i d l)
+    ∙ keep_seat (has s i) i (get_or ms i d) (filter (λ seat. not (has s seat.0)) (enumerate_from (i + 1) (drop (i + 1) ms)))
+
+keep_one : (b : Bool) (p : Proc) (rest : List Proc) → cond b (p ∷ rest) rest ≡ cond b (p ∷ []) [] ++ rest
+keep_one true p rest = refl
+keep_one false p rest = refl
+
+-- the same of those that pass a test
+pub filter_more : (test : Proc → Bool) (i : ℕ) (ms : List Proc) (d : Proc) → i < length ms
+    → filter test (drop i ms) ≡ cond (test (get_or ms i d)) (get_or ms i d ∷ []) [] ++ filter test (drop (i + 1) ms)
+filter_more test i ms d l =
+    ap (filter test) (drop_more ms i d l) ∙ keep_one (test (get_or ms i d)) (get_or ms i d) (filter test (drop (i + 1) ms))
+
+-- what is gathered, and what the rest adds, stays the same
+pub gathered : (row new kept left all rest : List Proc) → row ++ left ≡ all → left ≡ kept ++ rest → new ≡ row ++ kept → new ++ rest ≡ all
+gathered row new kept left all rest before more is =
+    ap (λ l. l ++ rest) is ∙ append_assoc row kept rest ∙ ap (λ l. row ++ l) (sym more) ∙ before
+
+-- ---- one element more
+
+either_way : (i k : ℕ) → (i == k) ≡ ((k == i) || false)
+either_way i k = grind (arith, nat_tests)
+
+not_this : (b : Bool) (i k : ℕ) → i < 8 → 8 ≤ k → b ≡ (b || ((k == i) || false))
+not_this true i k l h = refl
+not_this false i k l h = grind (arith, nat_tests)
+
+pub set_more : (xs : List ℕ) (k : ℕ) → with_number (set_of xs) k ≡ set_of (xs ++ k ∷ [])
+set_more xs k =
+    set_where-same (λ j. has (set_of xs) j || j == k) (is_in (xs ++ k ∷ [])) (λ i l.
+    (λ t. has-set_where (is_in xs) i l t || either_way i k t) ∙ sym (list_any-append (λ y. y == i) xs (k ∷ [])))
+
+-- a number that no set has
+pub set_same : (xs : List ℕ) (k : ℕ) → 8 ≤ k → set_of xs ≡ set_of (xs ++ k ∷ [])
+set_same xs k h =
+    set_where-same (is_in xs) (is_in (xs ++ k ∷ [])) (λ i l.
+    not_this (is_in xs i) i k l h ∙ sym (list_any-append (λ y. y == i) xs (k ∷ [])))
+
+-- no element is in no set
+pub set_none : (s : Set8) → s.bits ≡ 0 → s ≡ set_of []
+unfolding byte_where
+set_none s e = ap (λ b. let set : Set8 = record { bits = b } in set) e
+
+-- ---- a request that most hold, looked for from a place on
+
+module _ (pattern : Pattern) (live ms : List Proc) (i : ℕ) (d : Proc) (desc : Descriptor) (b : Bool) (here : i < length ms) (shows : desc ≡ descriptor_of pattern (get_or ms i d)) (is : b ≡ most_hold pattern live desc) where
+  abbrev later : Option Descriptor
+  later = find (most_hold pattern live) (map (descriptor_of pattern) (drop (i + 1) ms))
+
+  one_more : find (most_hold pattern live) (map (descriptor_of pattern) (drop i ms)) ≡ cond b (Some desc) later
+  one_more =
+      ap (λ xs. find (most_hold pattern live) (map (descriptor_of pattern) xs)) (drop_more ms i d here)
+      ∙ ap (λ x. cond (most_hold pattern live x) (Some x) later) (sym shows)
+      ∙ ap (λ c. cond c (Some desc) later) (sym is)
+
+  -- it is the one shown there
+  pub held_here : b ≡ true → find (most_hold pattern live) (map (descriptor_of pattern) (drop i ms)) ≡ Some desc
+  held_here e = one_more ∙ ap (λ c. cond c (Some desc) later) e
+
+  -- or one that is shown later
+  pub held_later : b ≡ false → find (most_hold pattern live) (map (descriptor_of pattern) (drop i ms)) ≡ find (most_hold pattern live) (map (descriptor_of pattern) (drop (i + 1) ms))
+  held_later e = one_more ∙ ap (λ c. cond c (Some desc) later) e
+
+-- ---- the flags of a group are those of its live members
+
+pub flags_on_live : (pattern : Pattern) (g : Group) → flags_on pattern g.vid (live_members g) ≡ flags_of pattern g
+unfolding flags_of voted_descriptor
+flags_on_live pattern g = λ t. record {
+  vid = g.vid;
+  desc = most_held pattern (live_members g);
+  unanimous = same_all (most_held pattern (live_members g)) t;
+  live = set_of (elements_of (live_members g));
+  holds = set_of (elements_of (same_holders (most_held pattern (live_members g)) t));
+  space = set_of (elements_of (filter (has_space pattern) (live_members g)));
+  most_space = most (has_space pattern) (live_members g);
+} where
+  same_all : (d : Option Descriptor) → all_hold_it pattern (live_members g) d ≡ all_hold pattern g d
+  same_all None = refl
+  same_all (Some desc) = refl
+
+  same_holders : (d : Option Descriptor) → held_by pattern (live_members g) d ≡ holders pattern g d
+  same_holders None = refl
+  same_holders (Some desc) = refl

@@ -1,0 +1,113 @@
+//! The flags of each group of a table.
+
+ghost use Rattle.std.specs.Prelude.{◌≡◌, ◌≤◌, length, map};
+ghost use Rattle.ftpp_base.specs.Bits.{is_majority};
+ghost use Rattle.ftpp_base.specs.Sets.{set_of};
+ghost use Rattle.config_table.specs.Groups.{elements_of};
+ghost use Rattle.flag_vote.specs.Flags.{flags_of, voted_flags};
+ghost use Rattle.flag_vote.specs.Words.{flags_on, most_hold, most_held, held_by, all_hold_it};
+
+use crate::members::{Word, all_say, elements, live_members, those};
+use config_table::{Group, GroupFlags, Table, VotedFlags};
+use ftpp_base::{Proc, Set8};
+use local_pattern::SystemPattern;
+use packet_format::Descriptor;
+
+/// Whether a part is more than half of the whole.
+fn is_majority(part: usize, whole: usize) -> bool
+    requires { part ≤ 4 }
+    ensures { result ≡ is_majority part whole }
+{
+    whole < 2 * part
+}
+
+/// Whether more than half of the live members hold the request.
+fn most_hold<const N: usize>(pattern: &SystemPattern<N>, desc: Descriptor, live: &[Proc]) -> bool
+    requires { length live.now ≤ 4 }
+    ensures { result ≡ most_hold pattern.now live.now desc }
+{
+    let holders = those(pattern, &Word::Holds(desc), live);
+    is_majority(holders.len(), live.len())
+}
+
+/// The request that more than half of the live members hold, if any.
+fn first_held<const N: usize>(pattern: &SystemPattern<N>, live: &[Proc]) -> Option<Descriptor>
+    requires { length live.now ≤ 4 }
+    ensures { result ≡ most_held pattern.now live.now }
+{
+    for p in live {
+        let desc = pattern.shown(*p).desc;
+        if most_hold(pattern, desc, live) {
+            return Some(desc);
+        }
+    }
+    None
+}
+
+/// The elements of the live members that hold the voted request, and whether all of them do.
+fn held<const N: usize>(
+    pattern: &SystemPattern<N>,
+    live: &[Proc],
+    voted: Option<Descriptor>,
+) -> (Set8, bool)
+    requires { length live.now ≤ 4 }
+    ensures holds { result.0 ≡ set_of (elements_of (held_by pattern.now live.now voted)) }
+    ensures all { result.1 ≡ all_hold_it pattern.now live.now voted }
+{
+    match voted {
+        Some(desc) => {
+            let word = Word::Holds(desc);
+            let holders = those(pattern, &word, live);
+            let all = all_say(pattern, &word, live);
+            (elements(holders.as_slice()), all)
+        }
+        None => (elements(&[]), false),
+    }
+}
+
+/// The flags of a group with these live members.
+fn flags_on<const N: usize>(pattern: &SystemPattern<N>, vid: u8, live: &[Proc]) -> GroupFlags
+    requires { length live.now ≤ 4 }
+    ensures { result ≡ flags_on pattern.now vid live.now }
+{
+    let desc = first_held(pattern, live);
+    let (holds, unanimous) = held(pattern, live, desc);
+    let space = those(pattern, &Word::Space, live);
+    let most_space = is_majority(space.len(), live.len());
+    GroupFlags {
+        vid,
+        desc,
+        unanimous,
+        live: elements(live),
+        holds,
+        space: elements(space.as_slice()),
+        most_space,
+    }
+}
+
+/// The flags of a group.
+fn group_flags<const N: usize>(pattern: &SystemPattern<N>, g: &Group) -> GroupFlags
+    ensures { result ≡ flags_of pattern.now g.now }
+{
+    let live = live_members(g);
+    flags_on(pattern, g.vid, live.as_slice())
+}
+
+/// The flags of the groups, in their order.
+fn all_flags<const N: usize>(pattern: &SystemPattern<N>, groups: &[Group]) -> VotedFlags
+    requires { length groups.now ≤ 40 }
+    ensures { result.items ≡ map (flags_of pattern.now) groups.now }
+{
+    let mut flags = VotedFlags::new();
+    for g in groups {
+        flags.push(group_flags(pattern, g));
+    }
+    flags
+}
+
+/// The flags of each group by the agreed pattern of the table's elements, in the order of the table.
+pub fn voted<const N: usize>(table: &Table, pattern: &SystemPattern<N>) -> VotedFlags
+    ensures { result.items ≡ voted_flags table.now pattern.now }
+{
+    all_flags(pattern, table.groups())
+}

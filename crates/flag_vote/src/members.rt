@@ -1,0 +1,121 @@
+//! The live members of a group, and what they say in the agreed pattern.
+
+ghost use Rattle.std.specs.Prelude.{◌≡◌, ◌<◌, ◌≤◌, ◌+◌, ◌++◌, ℕ, List, [], ◌∷◌, length, filter, count_by, if◌then◌else◌};
+ghost use Rattle.std.specs.List.{list_all};
+ghost use Rattle.ftpp_base.specs.Sets.{set_of};
+ghost use Rattle.packet_format.specs.Packets.{same_descriptor};
+ghost use Rattle.config_table.specs.Groups.{elements_of, live_members};
+ghost use Rattle.flag_vote.specs.Words.{says, unmasked_from};
+
+use config_table::Group;
+use ftpp_base::{Proc, Row, Set8};
+use local_pattern::SystemPattern;
+use packet_format::Descriptor;
+
+/// What a member may say: that it holds a request, or that its input has room.
+#[derive(Drop)]
+pub enum Word {
+    Holds(Descriptor),
+    Space,
+}
+
+/// Some of the members of a group.
+pub type Members = Row<Proc, 4>;
+
+/// Puts a member at the end, where it is to be kept.
+fn push_if(row: &mut Members, keep: bool, proc: Proc)
+    requires { length row.old.items < 4 }
+    ensures items { row.new.items ≡ row.old.items ++ (if keep then proc ∷ [] else []) }
+    ensures length { length row.new.items ≤ length row.old.items + 1 }
+{
+    if keep {
+        row.push(proc);
+    }
+}
+
+/// The members that are not masked, in their order.
+fn unmasked(members: &[Proc], masked: &Set8) -> Members
+    requires { length members.now ≤ 4 }
+    ensures items { result.items ≡ unmasked_from masked.now 0 members.now }
+    ensures few { length result.items ≤ 4 }
+{
+    let mut live = Members::new();
+    for (i, p) in members.iter().enumerate() {
+        let is_masked = masked.has(i as u8);
+        push_if(&mut live, !is_masked, *p);
+    }
+    live
+}
+
+/// The live members of a group, in the order of the table.
+pub fn live_members(g: &Group) -> Members
+    ensures items { result.items ≡ live_members g.now }
+    ensures few { length result.items ≤ 4 }
+{
+    unmasked(g.members.as_slice(), &g.masked)
+}
+
+/// Whether the requests are equal.
+fn same(a: &Descriptor, b: &Descriptor) -> bool
+    ensures { result ≡ same_descriptor a.now b.now }
+{
+    a.dest == b.dest && a.class == b.class && a.source == b.source
+}
+
+/// Whether a member says the word.
+fn says<const N: usize>(pattern: &SystemPattern<N>, word: &Word, proc: Proc) -> bool
+    ensures { result ≡ says pattern.now word.now proc }
+{
+    let entry = pattern.shown(proc);
+    match word {
+        Word::Holds(desc) => entry.not_empty && same(&entry.desc, desc),
+        Word::Space => entry.not_full,
+    }
+}
+
+/// The members that say the word, in their order.
+pub fn those<const N: usize>(pattern: &SystemPattern<N>, word: &Word, members: &[Proc]) -> Members
+    requires { length members.now ≤ 4 }
+    ensures items { result.items ≡ filter (says pattern.now word.now) members.now }
+    ensures count { length result.items ≡ count_by (says pattern.now word.now) members.now }
+    ensures few { length result.items ≤ 4 }
+{
+    let mut row = Members::new();
+    for p in members {
+        let keep = says(pattern, word, *p);
+        push_if(&mut row, keep, *p);
+    }
+    row
+}
+
+/// Whether all members say the word.
+pub fn all_say<const N: usize>(pattern: &SystemPattern<N>, word: &Word, members: &[Proc]) -> bool
+    ensures { result ≡ list_all (says pattern.now word.now) members.now }
+{
+    for p in members {
+        let holds = says(pattern, word, *p);
+        if !holds {
+            return false;
+        }
+    }
+    true
+}
+
+/// The set with one element more. No set has a number that is 8 or more.
+#[tactic(auto, using(crate::proofs::Counted::set_more, crate::proofs::Counted::set_same))]
+fn with_element(set: Set8, ne: u8) -> Set8
+    ensures { (xs : List ℕ) → set ≡ set_of xs → result ≡ set_of (xs ++ ne ∷ []) }
+{
+    if ne < 8 { set.with(ne) } else { set }
+}
+
+/// The elements at which the members stand.
+pub fn elements(members: &[Proc]) -> Set8
+    ensures { result ≡ set_of (elements_of members.now) }
+{
+    let mut set = Set8 { bits: 0 };
+    for p in members {
+        set = with_element(set, p.ne);
+    }
+    set
+}
