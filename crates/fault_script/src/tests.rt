@@ -120,10 +120,25 @@ fn repeated(cycle_before: u32, sender_before: u8) -> Result<usize, Fail> {
     Ok(got.len())
 }
 
+/// What a repeat in A1 of cycle 0 sends.
+fn repeated_at_the_start() -> Result<usize, Fail> {
+    let to = Ne::new(2, 4).ok_or("no element")?;
+    let edits = [edit(0, None, None, EditKind::Repeat)];
+    let mut player = Player::new(&edits);
+    let mut got = frame(9, 9);
+    let at = Slot {
+        cycle: 0,
+        round: Round::A1,
+    };
+    player.frame(at, to, &frame(0, 3), &mut got);
+    Ok(got.len())
+}
+
 #[test]
 fn a_frame_is_repeated_where_the_same_element_was_faulty(rt: HostRuntime) -> Result<(), Fail> {
     assert_eq!(rt; repeated(0, 3)?, 8);
     assert_eq!(rt; repeated(0, 1)?, 0);
     assert_eq!(rt; repeated(1, 3)?, 0);
+    assert_eq!(rt; repeated_at_the_start()?, 0);
     Ok(())
 }
