@@ -1,18 +1,18 @@
 //! The scoreboard.
 
-ghost use Rattle.std.specs.Prelude.{◌≡◌, ◌+◌, ◌<◌, ◌≤◌, ℕ, map, true, is_some};
+ghost use Rattle.std.specs.Prelude.{◌≡◌, ◌+◌, ◌<◌, ◌≤◌, ℕ, [], map, true, is_some};
 ghost use Rattle.sender_choice.specs.Sinces.{is_held};
 ghost use Rattle.sender_choice.specs.Pairs.{sinces_of};
 ghost use Rattle.config_table.specs.Table.{IsValid, group_named};
 ghost use Rattle.scoreboard.specs.Board.{empty_scoreboard, line_of, marked, without_request, after_update, request_of, starved_of, lag_of};
 ghost use Rattle.scoreboard.specs.Choice.{decision_of, after_decision, scoreboard_decision, scoreboard_after};
 ghost use Rattle.scoreboard.specs.Steps.{sinces_in, line_but, lines_but};
-ghost use Rattle.scoreboard.specs.Times.{AreBefore, AreHeldBy, AreOthersHeldBy, AreLinesOf, lines_for};
+ghost use Rattle.scoreboard.specs.Times.{AreBefore, AreOthersHeldBy, AreLinesOf, lines_for};
 
 use crate::choice::choosable;
 use crate::decision::{decided, taken};
 use crate::lookups::{blank_line, groups_in, line_of};
-use crate::marks::marked;
+use crate::marks::mark_all;
 use config_table::{Decision, GroupFlags, StateRow, Table, VotedFlags};
 use ftpp_base::Row;
 use packet_format::Descriptor;
@@ -57,29 +57,58 @@ impl Scoreboard {
     pub fn step(&mut self, table: &Table, now: u32, flags: &VotedFlags) -> Decision
         requires cycle { now < 100000 }
         requires earlier { AreBefore now self.old }
-        requires held { AreHeldBy table.now self.old }
         ensures decision { result ≡ scoreboard_decision table.now now flags.now.items self.old }
         ensures after { self.new ≡ scoreboard_after table.now now flags.now.items self.old }
         ensures lines { AreLinesOf table.now self.new }
         ensures earlier { AreBefore (now + 1) self.new }
     {
-        self.mark(table, now, flags.as_slice());
-        let decision = self.decide(table, now, flags.as_slice());
-        self.end(&decision);
+        let mut after = Scoreboard::blank();
+        let decision = self.step_into(table, now, flags, &mut after);
+        *self = after;
         decision
     }
 
-    /// The lines after the pattern of a cycle.
-    fn mark(&mut self, table: &Table, now: u32, flags: &[GroupFlags])
+    /// Such a step, after which another scoreboard is what this one would be; this one stays.
+    pub fn step_into(
+        &self,
+        table: &Table,
+        now: u32,
+        flags: &VotedFlags,
+        after: &mut Scoreboard,
+    ) -> Decision
         requires cycle { now < 100000 }
-        requires earlier { AreBefore now self.old }
-        requires held { AreHeldBy table.now self.old }
-        ensures after { self.new ≡ marked table.now flags.now now self.old }
-        ensures earlier { AreBefore (now + 1) self.new }
+        requires earlier { AreBefore now self.now }
+        ensures decision { result ≡ scoreboard_decision table.now now flags.now.items self.now }
+        ensures after { after.new ≡ scoreboard_after table.now now flags.now.items self.now }
+        ensures lines { AreLinesOf table.now after.new }
+        ensures earlier { AreBefore (now + 1) after.new }
     {
-        let lines = marked(table, flags, now, self.lines.as_slice());
-        hold(&mut self.chooser, table, lines.as_slice());
-        self.lines = lines;
+        self.mark_into(table, now, flags.as_slice(), after);
+        let decision = after.decide(table, now, flags.as_slice());
+        after.end(&decision);
+        decision
+    }
+
+    /// Of no table.
+    fn blank() -> Scoreboard
+        ensures { result ≡ [] }
+    {
+        Scoreboard {
+            lines: Row::new(),
+            chooser: IndexChooser::new(),
+        }
+    }
+
+    /// The pattern of a cycle, after which another scoreboard is what this one would be.
+    fn mark_into(&self, table: &Table, now: u32, flags: &[GroupFlags], after: &mut Scoreboard)
+        requires cycle { now < 100000 }
+        requires earlier { AreBefore now self.now }
+        ensures after { after.new ≡ marked table.now flags.now now self.now }
+        ensures earlier { AreBefore (now + 1) after.new }
+    {
+        mark_all(table, flags, now, self.lines.as_slice(), &mut after.lines);
+        after.chooser = IndexChooser::new();
+        hold(&mut after.chooser, table, after.lines.as_slice());
     }
 
     /// What is done in the cycle.

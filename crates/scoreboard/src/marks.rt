@@ -124,22 +124,22 @@ fn line_after(
     }
 }
 
-/// The lines of a table's groups after one pattern.
+/// Writes the lines of a table's groups after one pattern.
 #[tactic(auto, unfolding(crate::specs::Board::marked))]
-pub(crate) fn marked(
+pub(crate) fn mark_all(
     table: &Table,
     flags: &[GroupFlags],
     now: u32,
     lines: &[StateRow],
-) -> Row<StateRow, 40>
+    after: &mut Row<StateRow, 40>,
+)
     requires cycle { now < 100000 }
     requires earlier { AreBefore now lines.now }
-    ensures { result.items ≡ marked table.now flags.now now lines.now }
+    ensures { after.new.items ≡ marked table.now flags.now now lines.now }
 {
-    let mut after: Row<StateRow, 40> = Row::new();
+    after.clear();
     for group in groups_in(table) {
         let line = line_of(lines, group.vid);
         after.push(line_after(flags, now, group, &line, flags_named(flags, group.vid)));
     }
-    after
 }

@@ -1,6 +1,6 @@
 use Rattle.std.proofs.Common.{◌≡◌, map, take}
 use Rattle.scoreboard.specs.Board.{marked_line}
-use Rattle.scoreboard.proofs.marks.marked.Given as goal
+use Rattle.scoreboard.proofs.marks.mark_all.Given as goal
 
 -- the lines of the groups so far
 abbrev pub invariant-loop-group : goal.invariant-loop-group
