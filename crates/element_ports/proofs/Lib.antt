@@ -1,1 +1,3 @@
+pub mod Deliveries
+pub mod LiveMember
 pub mod PortChanges

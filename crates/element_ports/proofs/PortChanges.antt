@@ -1,19 +1,22 @@
 -- The ports after the queues of one of them changed.
-use Rattle.std.proofs.Common.{◌≡◌, ℕ, zero, suc, ◌<◌, List, [], ◌∷◌, length, get_or, ap, sym, ◌∙◌, arith, map}
+use Rattle.std.proofs.Common.{◌≡◌, ℕ, zero, suc, ◌<◌, List, [], ◌∷◌, length, get_or, refl, ap, sym, ◌∙◌, arith, map}
 use Rattle.std.proofs.Math.ListN.{set}
 use Rattle.std.proofs.Math.Seq.{map-set_same}
 use Rattle.std.proofs.lemmas.List.{get_or-map}
 use Rattle.ftpp_base.specs.Lists.{change_at}
+use Rattle.ftpp_base.specs.declared.element.Proc.{Proc}
+use Rattle.config_table.specs.Table.{TableValue, in_limit}
 use Rattle.processor_buffers.specs.Queues.{Queues, no_queues}
 use Rattle.processor_buffers.specs.Buffers.{Buffers, buffers_after}
-use Rattle.element_ports.specs.Ports.{PortsValue, seen}
+use Rattle.element_ports.specs.Ports.{PortsValue, HasLimits, proc_at, seen}
 
 -- what stands past the eighth port
 abbrev pub no_buffers : Buffers
 no_buffers = record { queues = no_queues; outs = 0; ins = 0 }
 
 -- a part of each item of a list, where that of one item changed
-map-changed : {A B : Type 0} (part : A → B) (f : B → B) (xs : List A) (i : ℕ) (x y : A) → i < length xs → x ≡ get_or xs i x → part y ≡ f (part x)
+map-changed : {A B : Type 0} (part : A → B) (f : B → B) (xs : List A) (i : ℕ) (x y : A)
+    → i < length xs → x ≡ get_or xs i x → part y ≡ f (part x)
     → map part (set xs i y) ≡ change_at f (map part xs) i
 map-changed part f [] i x y l is e = let no : ⊥ = omega arith in absurd no
 map-changed part f (z ∷ zs) zero x y l is e = ap (λ w. w ∷ map part zs) (e ∙ ap (λ w. f (part w)) is)
@@ -60,3 +63,18 @@ ins_seen me items i port ports b is l place at =
     ∙ ap (λ (v : PortsValue). get_or v.ins i 0) (sym is)
     ∙ get_or-map (λ x. x.ins) items i b 0 l
     ∙ ap (λ x. x.ins) (sym at)
+
+-- a change that changes nothing
+pub change_at-none : {A : Type 0} (f : A → A) (xs : List A) (i : ℕ) → ((x : A) → f x ≡ x) → change_at f xs i ≡ xs
+change_at-none f [] i same = refl
+change_at-none f (x ∷ xs) zero same = ap (λ y. y ∷ xs) (same x)
+change_at-none f (x ∷ xs) (suc i) same = ap (λ ys. x ∷ ys) (change_at-none f xs i same)
+
+-- the input of a processor that stands here has the limit of the table
+pub ins_by_table : (table : TableValue) (me : ℕ) (items : List Buffers) (i : ℕ) (proc : Proc) (ports : PortsValue) (b : Buffers)
+    → HasLimits table ports → seen me items ≡ ports → i < length items → i ≡ proc.port → b ≡ get_or items i b
+    → proc.ne ≡ me → proc.port < 8 → b.ins ≡ in_limit table proc
+ins_by_table table me items i proc ports b limits is l place at here small =
+    sym (ins_seen me items i proc.port ports b is l place at)
+    ∙ (limits proc.port small).input
+    ∙ ap (λ ne. in_limit table (proc_at ne proc.port)) (sym (here ∙ ap (λ (v : PortsValue). v.me) is))

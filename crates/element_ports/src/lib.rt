@@ -2,7 +2,9 @@
 #![tactic(auto)]
 
 mod limits;
+mod members;
 mod ports;
+mod serving;
 mod showing;
 
 pub use ports::Ports;

@@ -5,5 +5,6 @@ use Rattle.element_ports.proofs.ports.Ports.read.Goals as goal
 
 pub returns-clause-ports : goal.returns-clause-ports
 returns-clause-ports c table =
-    seen-changed after_read c.self.inside.me c.self.inside.buffers.items c.from.result c.args.port c.args.self.now c.index_mut-buffers.result.now c.read.new.self
+    seen-changed after_read c.self.inside.me c.self.inside.buffers.items c.from.result c.args.port c.args.self.now
+    c.index_mut-buffers.result.now c.read.new.self
     c.self.view_is (omega arith) c.from.ensures c.index_mut-buffers.ensures.value c.read.ensures.queues
