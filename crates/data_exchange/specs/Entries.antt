@@ -1,5 +1,5 @@
 -- Who contributes to an exchange, and the entry that each element makes of it.
-use Rattle.std.specs.Prelude.{ℕ, ◌<◌, Bool, true, false, not, ◌&&◌, ◌==◌, List, [], ◌∷◌, map, filter, find, length, Option, Some, None, option_map, unwrap_or, is_none, if◌then◌else◌}
+use Rattle.std.specs.Prelude.{◌≡◌, ℕ, ◌<◌, Bool, true, false, not, ◌&&◌, ◌==◌, List, [], ◌∷◌, map, filter, find, length, Option, Some, None, option_map, unwrap_or, is_none, if◌then◌else◌}
 use Rattle.std.specs.List.{list_all, enumerate_from}
 use Rattle.ftpp_base.specs.Bits.{is_majority}
 use Rattle.ftpp_base.specs.Lists.{is_this}
@@ -32,6 +32,10 @@ contributes service ne = has service.admitted ne && may_send service.kind ne
 -- what an element counts as: its value where it contributes, and none otherwise
 abbrev pub contribution : Service → (ℕ → Cell) → ℕ → Cell
 contribution service value ne = if contributes service ne then value ne else None
+
+-- whether two values are the same where they count: at the elements below n that contribute
+abbrev pub CountsAlike : ℕ → Service → (ℕ → Cell) → (ℕ → Cell) → Type 0
+CountsAlike n service value other = (ne : ℕ) → ne < n → contributes service ne ≡ true → value ne ≡ other ne
 
 -- the ones of some members that are not masked
 abbrev pub live_in : Set8 → List Proc → List Proc
@@ -118,6 +122,12 @@ abbrev pub IsSourceBelow : ℕ → Kind → Type 0
 IsSourceBelow n Voted = ⊥
 IsSourceBelow n (Source s) = s < n
 IsSourceBelow n Every = ⊥
+
+-- where one element alone sends, it is one of n
+abbrev pub IsSourceAmong : ℕ → Kind → Type 0
+IsSourceAmong n Voted = Unit {0}
+IsSourceAmong n (Source s) = s < n
+IsSourceAmong n Every = Unit {0}
 
 -- whether the faulty element is one of the set
 abbrev pub includes : Set8 → Option ℕ → Bool

@@ -1,14 +1,14 @@
 //! The entry that an element makes of an exchange.
 
-ghost use Rattle.std.specs.Prelude.{◌≡◌, ◌<◌, ◌≤◌, ℕ, length, map, true, All};
+ghost use Rattle.std.specs.Prelude.{◌≡◌, ◌<◌, ◌≤◌, ℕ, length, map, All};
 ghost use Rattle.ftpp_base.specs.Lists.{cell_at};
 ghost use Rattle.bit_vote.specs.Vote.{Cell};
 ghost use Rattle.two_round.specs.Echoes.{result_for};
 ghost use Rattle.config_table.specs.Bounds.{InRange};
 ghost use Rattle.config_table.specs.Table.{TableValue};
-ghost use Rattle.data_exchange.specs.Entries.{contributes, contribution, member_counts_as, members_vote, entry_by, packet_in, live_in, IsSourceBelow};
+ghost use Rattle.data_exchange.specs.Entries.{contribution, member_counts_as, members_vote, entry_by, packet_in, live_in, IsSourceAmong, IsSourceBelow, CountsAlike};
 
-use crate::kinds::{contributes, is_contributor};
+use crate::kinds::is_contributor;
 use bit_vote::{Cells, vote_lanes};
 use config_table::{Kind, Service, Table};
 use ftpp_base::{Ne, Proc, Row, Set8};
@@ -84,21 +84,54 @@ fn members_vote<const N: usize>(
     }
 }
 
-/// The two-round results of those of `n` elements that contribute.
-fn results<const N: usize>(n: u8, service: &Service, x: &TwoRound<N, 64>) -> Cells<N, 64>
+/// The vote over the two-round results of the live members of the group that is served. Results of
+/// elements that do not contribute do not count. It is what an update is taken from, whatever the
+/// kind, and none exactly where at most half of these contribute a result that is present.
+pub fn members_result<const N: usize>(
+    table: &Table,
+    service: &Service,
+    results: &Cells<N, 64>,
+) -> Option<Packet>
     requires few { N ≤ 5 }
-    requires elements { n ≡ N }
-    ensures { (ne : ℕ) → ne < N → contributes service.now ne ≡ true → cell_at result ne ≡ result_for x.now ne }
+    requires elements { table.now.n ≡ N }
+    ensures { (value : ℕ → Cell) → CountsAlike N service.now value (cell_at results.now) → result ≡ packet_in (members_vote table.now service.now value) }
 {
-    let mut results = Cells::absent();
-    for k in 0..N {
-        if let Some(ne) = Ne::new(k as u8, n) {
-            if contributes(service, ne) {
-                results.set(k, x.result(ne));
-            }
-        }
+    // in a valid table all members are elements of it
+    let _valid = table.n();
+    members_vote(table, service, results)
+}
+
+/// The entry of an exchange, by its kind: over the copies, or over the two-round results. Results of
+/// elements that do not contribute do not count.
+pub fn entry<const N: usize>(
+    table: &Table,
+    service: &Service,
+    copies: &Cells<N, 64>,
+    results: &Cells<N, 64>,
+) -> Option<Packet>
+    requires few { N ≤ 5 }
+    requires elements { table.now.n ≡ N }
+    requires source { IsSourceAmong N service.now.kind }
+    ensures { (value : ℕ → Cell) → CountsAlike N service.now value (cell_at results.now) → result ≡ packet_in (entry_by service.now.kind table.now service.now (cell_at copies.now) value) }
+{
+    match &service.kind {
+        Kind::Voted => members_vote(table, service, copies),
+        Kind::Source(source) => source_value(service, *source, results),
+        Kind::Every => members_result(table, service, results),
     }
-    results
+}
+
+/// The result of one source, or none where it does not contribute.
+fn source_value<const N: usize>(
+    service: &Service,
+    source: Ne,
+    results: &Cells<N, 64>,
+) -> Option<Packet>
+    requires among { source < N }
+    requires few { N ≤ 5 }
+    ensures { result ≡ packet_in (contribution service.now (cell_at results.now) source) }
+{
+    packet_in(contribution(service, source.byte(), results))
 }
 
 /// The entry of an exchange of one round: the vote over the copies of the live members. It is none
@@ -123,11 +156,8 @@ pub fn source_result<const N: usize>(service: &Service, x: &TwoRound<N, 64>) -> 
 {
     match &service.kind {
         Kind::Source(source) => {
-            if contributes(service, *source) {
-                packet_in(x.result(*source))
-            } else {
-                None
-            }
+            let only = Set8::default().with(source.byte());
+            source_value(service, *source, &x.results_of(only))
         }
         _ => None,
     }
@@ -145,5 +175,5 @@ pub fn every_member_result<const N: usize>(
     requires kind { service.now.kind ≡ Kind.Every }
     ensures { (copies : ℕ → Cell) → result ≡ packet_in (entry_by service.now.kind table.now service.now copies (result_for x.now)) }
 {
-    members_vote(table, service, &results(table.n(), service, x))
+    members_result(table, service, &x.results_of(service.admitted))
 }

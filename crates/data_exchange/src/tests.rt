@@ -76,6 +76,12 @@ fn copies_of_three_members_are_voted(rt: HostRuntime) -> Result<(), Fail> {
     copies.set(2, row(0));
     copies.set(3, row(0xff));
     assert_eq!(rt; one_round::<4>(&table, &three, &copies), packet(0xff));
+    // an update of the same exchange is taken from the results
+    let mut results = Cells::absent();
+    results.set(1, row(0x17));
+    results.set(2, row(0x17));
+    assert_eq!(rt; entry::<4>(&table, &three, &copies, &results), packet(0xff));
+    assert_eq!(rt; members_result::<4>(&table, &three, &results), packet(0x17));
     copies.set(2, None);
     copies.set(3, None);
     assert_eq!(rt; one_round::<4>(&table, &three, &copies), None);
@@ -108,20 +114,33 @@ fn results_of_two_members_are_voted(rt: HostRuntime) -> Result<(), Fail> {
     let two = service(2, 3, Kind::Every, 0b0011);
     let both = heard(row(0x55), row(0x55)).ok_or("elements")?;
     assert_eq!(rt; every_member_result(&table, &two, &both), packet(0x55));
+    let copies = Cells::absent();
+    assert_eq!(rt;
+        entry::<4>(&table, &two, &copies, &both.results()),
+        packet(0x55)
+    );
     let one = heard(row(0x55), None).ok_or("elements")?;
     assert_eq!(rt; every_member_result(&table, &two, &one), None);
+    assert_eq!(rt; members_result::<4>(&table, &two, &one.results()), None);
     Ok(())
 }
 
 #[test]
 fn result_of_a_source_is_its_own(rt: HostRuntime) -> Result<(), Fail> {
+    let table = table().ok_or("table")?;
+    let copies = Cells::absent();
     let one = Ne::new(1, 4).ok_or("1")?;
     let x = heard(row(0x0f), row(0x17)).ok_or("elements")?;
     let admitted = service(4, 2, Kind::Source(one), 0b0010);
     assert_eq!(rt; contributes(&admitted, one), true);
     assert_eq!(rt; source_result(&admitted, &x), packet(0x17));
+    assert_eq!(rt;
+        entry::<4>(&table, &admitted, &copies, &x.results()),
+        packet(0x17)
+    );
     let absent = service(4, 2, Kind::Source(one), 0b0001);
     assert_eq!(rt; contributes(&absent, one), false);
     assert_eq!(rt; source_result(&absent, &x), None);
+    assert_eq!(rt; entry::<4>(&table, &absent, &copies, &x.results()), None);
     Ok(())
 }

@@ -72,7 +72,7 @@ fn entries_outside_the_grammar_are_quiet(rt: HostRuntime) -> Result<(), Fail> {
     cells.set(1, row(4, [3, 3, 1, 0]));
     x.take_first(one, row(4, [3, 3, 1, 0]));
     x.take_echo(two, cells);
-    let pattern = settle(&x);
+    let pattern = pattern_of(&x.results());
     let quiet = entry(false, false, [0, 0, 0]);
     let request = entry(true, true, [3, 1, 0]);
     assert_eq!(rt; pattern.entry(Proc { ne: 1, port: 0 }), quiet);

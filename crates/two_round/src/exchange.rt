@@ -1,13 +1,13 @@
 //! What one element holds of an exchange, and what it makes of it.
 
 ghost use Rattle.std.specs.Prelude.{◌≡◌, ◌≢◌, ◌<◌, ◌≤◌, ◌^◌};
-ghost use Rattle.ftpp_base.specs.Lists.{cell_at};
-ghost use Rattle.two_round.specs.Echoes.{no_echoes, with_copy, with_relayed, relayed_at, word_of, result_for};
+ghost use Rattle.ftpp_base.specs.Lists.{cell_at, each_below};
+ghost use Rattle.two_round.specs.Echoes.{no_echoes, with_copy, with_relayed, relayed_at, word_of, result_for, result_of};
 ghost use Rattle.two_round.specs.Agreement.{IsAgreed};
 
 use crate::packed::PackedRows;
 use bit_vote::{Cells, vote_lanes};
-use ftpp_base::{Ne, Row};
+use ftpp_base::{Ne, Row, Set8};
 use std::marker::Model;
 
 /// What one element holds of an exchange in two rounds among `N` elements: its first-round copies by
@@ -53,6 +53,17 @@ impl<const N: usize, const B: usize> TwoRound<N, B> {
         ensures { self.new ≡ no_echoes N self.old.me }
     {
         *self = TwoRound::new(self.me);
+    }
+
+    /// The element that holds it.
+    pub fn me(&self) -> Ne
+        ensures me { result ≡ self.now.me }
+        ensures among { result < N }
+        ensures few { N ≤ 5 }
+    {
+        // it is one of those that have a copy
+        let _elements = self.copies.len();
+        self.me
     }
 
     /// Takes the element's own value.
@@ -107,16 +118,31 @@ impl<const N: usize, const B: usize> TwoRound<N, B> {
 
     /// What the element counts as an element's word about a source: its own copy, or the cell that the
     /// other one relayed.
-    fn word(&self, of: usize, source: Ne) -> Option<[u8; B]>
+    fn word(&self, of: usize, source: usize) -> Option<[u8; B]>
         requires of { of < N }
         requires source { source < N }
         ensures { result ≡ word_of self.now source of }
     {
         if of == self.me.index() {
-            self.copies.get(source.index())
+            self.copies.get(source)
         } else {
-            self.relayed[of].get(source.index())
+            self.relayed[of].get(source)
         }
+    }
+
+    /// The vote over the words of all elements but the source, ascending.
+    fn voted(&self, source: usize) -> Option<[u8; B]>
+        requires { source < N }
+        ensures { result ≡ result_for self.now source }
+    {
+        let elements = self.copies.len();
+        let mut words = Row::<Option<[u8; B]>, N>::new();
+        for of in 0..elements {
+            if of != source {
+                words.push(self.word(of, source));
+            }
+        }
+        vote_lanes(words.as_slice())
     }
 
     /// The result for a source: the vote over the words of all elements but the source, ascending. It
@@ -127,14 +153,31 @@ impl<const N: usize, const B: usize> TwoRound<N, B> {
         // Of the faulty source, too, it is what every other element comes to.
         ensures agreed { IsAgreed B N self.now source result }
     {
+        self.voted(source.index())
+    }
+
+    /// The results for all sources, by source.
+    pub fn results(&self) -> Cells<N, B>
+        ensures results { result ≡ each_below N (result_for self.now) }
+        ensures few { N ≤ 5 }
+    {
+        // there are at most five of them, so a set has them all
+        let _elements = self.copies.len();
+        self.results_of(Set8 { bits: 0xff })
+    }
+
+    /// The results for the sources in a set, by source. Those of all others are absent.
+    pub fn results_of(&self, sources: Set8) -> Cells<N, B>
+        ensures results { result ≡ each_below N (result_of sources self.now) }
+        ensures few { N ≤ 5 }
+    {
         let elements = self.copies.len();
-        let skipped = source.index();
-        let mut words = Row::<Option<[u8; B]>, N>::new();
-        for of in 0..elements {
-            if of != skipped {
-                words.push(self.word(of, source));
+        let mut results = Cells::absent();
+        for source in 0..elements {
+            if sources.has(source as u8) {
+                results.set(source, self.voted(source));
             }
         }
-        vote_lanes(words.as_slice())
+        results
     }
 }

@@ -1,6 +1,6 @@
 use super::*;
 use bit_vote::Cells;
-use ftpp_base::Ne;
+use ftpp_base::{Ne, Set8};
 use std::test::Fail;
 
 /// Eight ports that are empty and not full, but for the first byte of the first one.
@@ -59,6 +59,14 @@ fn two_faced_pattern_is_agreed(rt: HostRuntime) -> Result<(), Fail> {
         assert_eq!(rt; at_two.result(of), column(wanted));
         assert_eq!(rt; at_three.result(of), column(wanted));
     }
+    let all = at_zero.results();
+    let some = at_zero.results_of(Set8 { bits: 0b1001 });
+    for (of, in_set) in [(0, true), (1, false), (2, false), (3, true)] {
+        assert_eq!(rt; all.get(of), column(2));
+        assert_eq!(rt; some.get(of).is_some(), in_set);
+    }
+    assert_eq!(rt; some.get(3), column(2));
+    assert_eq!(rt; at_zero.me(), zero);
     assert_eq!(rt; at_zero.copy(three), column(3));
     assert_eq!(rt; at_zero.relayed(one, three), column(0));
     at_zero.restart();
@@ -83,5 +91,7 @@ fn tie_among_five_gives_zero(rt: HostRuntime) -> Result<(), Fail> {
     at_zero.take_echo(Ne::new(2, 5).ok_or("2")?, zeros);
     at_zero.take_echo(Ne::new(3, 5).ok_or("3")?, zeros);
     assert_eq!(rt; at_zero.result(four), Some([0]));
+    assert_eq!(rt; at_zero.results().get(4), Some([0]));
+    assert_eq!(rt; at_zero.results().get(3), None);
     Ok(())
 }

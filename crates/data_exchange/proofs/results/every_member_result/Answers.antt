@@ -1,8 +1,7 @@
 use Rattle.std.proofs.Common.{◌∙◌, sym, ap}
-use Rattle.ftpp_base.specs.Lists.{cell_at}
 use Rattle.two_round.specs.Echoes.{result_for}
 use Rattle.data_exchange.specs.Entries.{entry_by, packet_in}
-use Rattle.data_exchange.proofs.MemberCells.{members_vote-counts}
+use Rattle.data_exchange.proofs.Contributing.{admitted_count}
 use Rattle.data_exchange.proofs.results.every_member_result.Goals as goal
 
 pub returns : goal.returns
@@ -10,6 +9,5 @@ returns g c copies =
     let table = c.args.table.now in
     let service = c.args.service.now in
     let result = result_for c.args.x.now in
-    c.members_vote.ensures
-    ∙ ap packet_in (members_vote-counts g.row.N service (cell_at c.results.result) result c.results.ensures table c.n.ensures.valid c.requires.elements)
+    c.members_result.ensures result (admitted_count g.row.N service c.args.x.now _ c.results_of.ensures.results)
     ∙ ap (λ kind. packet_in (entry_by kind table service copies result)) (sym c.requires.kind)
