@@ -1,10 +1,12 @@
 //! The eight ports of one element.
 #![tactic(auto)]
 
+pub mod laws;
 mod limits;
 mod members;
 mod ports;
 mod serving;
 mod showing;
+mod updating;
 
 pub use ports::Ports;
