@@ -39,7 +39,7 @@ fn refusal(rt: &HostRuntime, text: &[u8]) -> Result<(u32, u8), Fail> {
 
 /// Texts with the line and the code that refuse them, or zeros: each code, each pair of codes that one line
 /// can have, and the spellings of lines, words and numbers. An independent reader gave the values.
-static TEXTS: [(&[u8], u32, u8); 65] = [
+static TEXTS: [(&[u8], u32, u8); 73] = [
     (b"", 1, 10),
     (b"# no\n\n", 3, 10),
     (b"cycles", 1, 1),
@@ -47,6 +47,7 @@ static TEXTS: [(&[u8], u32, u8); 65] = [
     (b"cycles 5 6", 1, 1),
     (b"at 0 po", 1, 1),
     (b"faulty 9x", 1, 2),
+    (b"faulty 9", 1, 2),
     (b"cycles 5\ncycles 0", 2, 2),
     (b"cycles 5\ncycles x", 2, 2),
     (b"cycles 100001", 1, 3),
@@ -67,11 +68,15 @@ static TEXTS: [(&[u8], u32, u8); 65] = [
     (b"cycles 5\nat 2 post 9.0 1 1 1 f", 2, 5),
     (b"cycles 5\nat 9 post 9.0 1 1 1 f", 2, 4),
     (b"cycles 5\nat 9 post 9.0 256 1 1 f", 2, 3),
+    (b"cycles 5\nat x read 9.9", 2, 3),
     (b"at 9 post 9.0 256 1 1 f", 1, 2),
+    (b"at 0 drop A3 9", 1, 2),
+    (b"at 0 rejoin 9", 1, 2),
     (b"at 9 post 9.0 256 1 1", 1, 1),
     (b"cycles 5\nat 0 post 0.0 1 1 1 0g", 2, 6),
     (b"cycles 5\nat 0 post 0.0 1 1 1 -", 0, 0),
     (b"cycles 5\nat 0 post 0.0 1 1 1 --", 2, 6),
+    (b"cycles 5\nat 0 post 0.0 0001 1 1 4A", 0, 0),
     (b"cycles 5\nfaulty 5", 2, 7),
     (b"cycles 5\nfaulty 256", 2, 3),
     (b"cycles 5\nfaulty 4", 0, 0),
@@ -79,6 +84,8 @@ static TEXTS: [(&[u8], u32, u8); 65] = [
     (b"cycles 5\nat 0 read 0.0\nfaulty 1", 3, 7),
     (b"cycles 5\nat 0 drop any all", 2, 7),
     (b"cycles 5\nat 0 drop A3 9", 2, 7),
+    (b"cycles 5\nat 5 drop A3 9", 2, 4),
+    (b"cycles 5\nat 0 flip A3 9 0 fg", 2, 3),
     (b"cycles 5\nfaulty 1\nat 0 drop any 1", 3, 8),
     (b"cycles 5\nfaulty 1\nat 0 drop any 5", 3, 8),
     (b"cycles 5\nfaulty 1\nat 0 drop a1 0", 3, 8),
@@ -99,6 +106,7 @@ static TEXTS: [(&[u8], u32, u8); 65] = [
     (b"cycles 5\nfaulty 1\nat 0 rejoin 1", 3, 15),
     (b"cycles 5\nfaulty 1\nat 0 rejoin 5", 3, 15),
     (b"cycles 5\nfaulty 1\nat 0 rejoin all", 3, 15),
+    (b"cycles 5\nfaulty 1\nat x rejoin 1", 3, 3),
     (
         b"cycles 5\nfaulty 1\nat 0 read 0.0\nat 0 rejoin none",
         4,
@@ -153,7 +161,7 @@ fn repeated(
 }
 
 /// Texts at the limits: 64 bytes of a packet, 331 of a frame, 80 posts and reads of a cycle.
-static LONG_TEXTS: [(&[u8], &[u8], usize, &[u8], u32, u8); 9] = [
+static LONG_TEXTS: [(&[u8], &[u8], usize, &[u8], u32, u8); 12] = [
     (b"cycles 5\nat 0 post 0.0 1 1 1 ", b"0F", 64, b"", 0, 0),
     (b"cycles 5\nat 0 post 0.0 1 1 1 ", b"0f", 65, b"", 2, 6),
     (b"cycles 5\nat 0 post 0.0 1 1 1 ", b"0f", 64, b"0", 2, 6),
@@ -197,6 +205,30 @@ static LONG_TEXTS: [(&[u8], &[u8], usize, &[u8], u32, u8); 9] = [
         b"at 0 post 0.9 1 1 1 f",
         82,
         5,
+    ),
+    (
+        b"cycles 2\n",
+        b"at 0 read 0.0\n",
+        80,
+        b"at 0 post 0.0 1 1 1 f",
+        82,
+        6,
+    ),
+    (
+        b"cycles 2\n",
+        b"at 0 read 0.0\n",
+        80,
+        b"at 0 post 0.0 256 1 1 ff",
+        82,
+        3,
+    ),
+    (
+        b"cycles 2\n",
+        b"at 0 read 0.0\n",
+        80,
+        b"at 1 read 0.0\nat 0 read 0.0",
+        83,
+        4,
     ),
 ];
 
