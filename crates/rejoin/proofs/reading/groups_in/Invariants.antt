@@ -1,0 +1,10 @@
+use Rattle.std.proofs.Common.{◌≡◌, map, length}
+use Rattle.std.specs.List.{range_with_len}
+use Rattle.rejoin.specs.Reading.{group_at}
+use Rattle.rejoin.proofs.reading.groups_in.Given as goal
+
+abbrev pub invariant-loop-i : goal.invariant-loop-i
+invariant-loop-i l = record {
+  all : l.groups.items ≡ map (group_at l.bytes) (range_with_len 0 l.i);
+  count : length l.groups.items ≡ l.i;
+}
