@@ -18,7 +18,9 @@ pub struct StdSource {
 
 impl StdSource {
     /// The source of a stream.
-    pub fn new(stream: Stdin) -> Self {
+    pub fn new(stream: Stdin) -> Self
+        ensures counts { (result.faults ≡ 0) × (result.taken ≡ 0) }
+    {
         StdSource {
             stream,
             faults: 0,
@@ -58,7 +60,9 @@ pub struct StdSink {
 
 impl StdSink {
     /// The sink of a stream.
-    pub fn new(stream: Stdout) -> Self {
+    pub fn new(stream: Stdout) -> Self
+        ensures { result.faults ≡ 0 }
+    {
         StdSink { stream, faults: 0 }
     }
 

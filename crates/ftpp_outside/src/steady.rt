@@ -1,5 +1,5 @@
 //! A source and a sink that never fail.
-ghost use Rattle.std.specs.Prelude.{◌≡◌, ◌+◌, ◌<◌, ◌≤◌, ◌^◌, None, Some, length, vec_len};
+ghost use Rattle.std.specs.Prelude.{◌≡◌, ◌+◌, ◌<◌, ◌≤◌, ◌^◌, None, Some, Ok, length, vec_len};
 ghost use Rattle.ftpp_outside.specs.Told.{raised};
 
 use crate::sink::{Sink, WriteFault};
@@ -66,7 +66,7 @@ impl SteadySink {
         SteadySink { count: 0 }
     }
 
-    /// The number of bytes that it was given, which stays at 2^64 - 1.
+    /// The number of bytes that it was given in all writes so far, which stays at 2^64 - 1.
     pub fn count(&self) -> u64
         ensures { result ≡ self.now.count }
     {
@@ -79,7 +79,10 @@ impl Sink for SteadySink {
 
     ghost faults = { λ _. 0 };
 
-    fn write(&mut self, piece: &[u8]) -> Result<usize, WriteFault> {
+    fn write(&mut self, piece: &[u8]) -> Result<usize, WriteFault>
+        ensures whole { result ≡ Ok (length piece.now) }
+        ensures counted { self.new.count ≡ raised self.old.count (length piece.now) }
+    {
         self.count = self.count.saturating_add(piece.len() as u64);
         Ok(piece.len())
     }
