@@ -1,6 +1,120 @@
 //! What one element notes of the others in a cycle.
 #![tactic(auto)]
 
-mod relaying;
+ghost use Rattle.std.specs.Prelude.{◌≡◌, ◌<◌, ◌≤◌, ℕ, true, length, option_copied};
+ghost use Rattle.run.specs.Element.{Kept, Made, own_entry};
+ghost use Rattle.run.specs.Noted.{noted_by};
+ghost use Rattle.run.specs.Sent.{is_relayed};
+ghost use Rattle.element_notes.specs.AtHand.{AreResults, HasParts};
 
+mod copies;
+mod entries;
+mod members;
+mod relaying;
+mod sets;
+mod values;
+
+use bit_vote::Cells;
+use config_table::{Decision, Table};
+use copies::{note_copies, note_relays};
+use entries::Heading;
+use ftpp_base::{Ne, Row};
+use local_pattern::SystemPattern;
+use members::{note_absent, note_full};
+use packet_format::Packet;
 pub use relaying::{is_relayed, relayed};
+use sets::all_elements;
+use syndrome_log::{Syndrome, SyndromeKind};
+use two_round::TwoRound;
+use values::note_values;
+
+/// What an element has at hand at the end of a cycle, each part computed once.
+#[derive(Clone, Copy)]
+pub struct Seen<'a, const N: usize> {
+    /// The element itself.
+    pub me: Ne,
+    pub cycle: u32,
+    pub table: &'a Table,
+    pub pattern: &'a SystemPattern<N>,
+    pub decision: &'a Decision,
+    /// The exchange of patterns, and the result for each element.
+    pub patterns: &'a TwoRound<N, 32>,
+    pub pattern_results: &'a Cells<N, 32>,
+    /// The exchange of packets, and the result for each element whose packet is relayed.
+    pub packets: &'a TwoRound<N, 64>,
+    pub packet_results: &'a Cells<N, 64>,
+    /// What came of the exchange of packets.
+    pub entry: Option<&'a Packet>,
+}
+
+/// What the element notes of the cycle, in the order of the kinds, and within a kind by accused and
+/// other. What the row had is gone.
+pub fn note<const N: usize>(seen: &Seen<N>, out: &mut Row<Syndrome, 64>)
+    requires few { N ≤ 5 }
+    requires elements { seen.now.table.now.n ≡ N }
+    requires among { seen.now.me < N }
+    requires patterns { seen.now.patterns.now.me ≡ seen.now.me }
+    requires packets { seen.now.packets.now.me ≡ seen.now.me }
+    requires pattern_results { AreResults N seen.now.patterns.now (λ s. true) seen.now.pattern_results.now }
+    requires packet_results { AreResults N seen.now.packets.now (is_relayed seen.now.decision.now) seen.now.packet_results.now }
+    requires entry { option_copied seen.now.entry ≡ own_entry seen.now.table.now seen.now.decision.now seen.now.packets.now }
+    ensures noted { (kept : Kept) (m : Made) → HasParts seen.now.cycle seen.now.table.now seen.now.pattern.now seen.now.decision.now seen.now.patterns.now seen.now.packets.now kept m → out.new.items ≡ noted_by kept m }
+    ensures few { length out.new.items ≤ 52 }
+{
+    out.clear();
+    let Seen {
+        me,
+        cycle,
+        table,
+        pattern,
+        decision,
+        ..
+    } = *seen;
+    let all = all_elements();
+    let sent = relayed(decision);
+    let (p1, p2) = (SyndromeKind::P1, SyndromeKind::P2);
+    note_copies(
+        seen.patterns,
+        seen.pattern_results,
+        &all,
+        me,
+        &Heading { cycle, kind: p1 },
+        out,
+    );
+    note_relays(
+        seen.patterns,
+        seen.pattern_results,
+        &all,
+        me,
+        &Heading { cycle, kind: p2 },
+        out,
+    );
+    note_absent(table, pattern, decision, cycle, out);
+    note_full(table, pattern, decision, cycle, out);
+    let (d1, d2) = (SyndromeKind::D1, SyndromeKind::D2);
+    note_copies(
+        seen.packets,
+        seen.packet_results,
+        &sent,
+        me,
+        &Heading { cycle, kind: d1 },
+        out,
+    );
+    note_relays(
+        seen.packets,
+        seen.packet_results,
+        &sent,
+        me,
+        &Heading { cycle, kind: d2 },
+        out,
+    );
+    note_values(
+        table,
+        decision,
+        seen.packets,
+        seen.packet_results,
+        seen.entry,
+        cycle,
+        out,
+    );
+}

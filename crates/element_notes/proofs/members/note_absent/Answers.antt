@@ -1,0 +1,20 @@
+use Rattle.std.proofs.Common.{◌<◌, ◌≤◌, ◌∙◌, ◌++◌, ap, arith}
+use Rattle.ftpp_base.specs.Lists.{below}
+use Rattle.syndrome_log.specs.declared.SyndromeKind.TheVariants as kind
+use Rattle.run.specs.Syndromes.{accused_where}
+use Rattle.element_notes.specs.declared.entries.Heading.{Heading}
+use Rattle.element_notes.specs.Words.{is_absent}
+use Rattle.element_notes.proofs.Accusing.{accused_same, absent_entries}
+use Rattle.element_notes.proofs.members.note_absent.Goals as goal
+
+pub returns-clause-items : goal.returns-clause-items
+returns-clause-items g c =
+    let table = c.args.table.now in
+    let decision = c.args.decision.now in
+    let heading : Heading = record { cycle = c.args.cycle; kind = kind.R } in
+    let few : c.n.result ≤ 8 = (let size = c.n.ensures.size in omega arith) in
+    c.note_each.ensures.items
+    ∙ ap (λ l. c.args.out.now.items ++ l)
+    (accused_same heading c.n.result c.absent-nes.result (is_absent table decision) (λ s l. c.absent-nes.ensures s (let low : s < 8 = omega arith in low))
+    ∙ ap (λ n. accused_where c.args.cycle kind.R (is_absent table decision) (below n)) c.n.ensures.n
+    ∙ absent_entries c.args.cycle table decision)

@@ -1,0 +1,148 @@
+//! Copies and relayed rows that differ from the results. An exchange in two rounds goes with the
+//! results for the senders that count.
+
+ghost use Rattle.std.specs.Prelude.{◌≡◌, ◌≢◌, ℕ, ◌+◌, ◌<◌, ◌≤◌, ◌==◌, ◌&&◌, ◌++◌, not, length};
+ghost use Rattle.ftpp_base.specs.Sets.{has};
+ghost use Rattle.bit_vote.specs.Vote.{same_cell};
+ghost use Rattle.two_round.specs.Echoes.{word_of};
+ghost use Rattle.run.specs.Noted.{off_copies, off_by, off_relays};
+ghost use Rattle.element_notes.specs.Words.{is_off_word, IsWhole};
+
+use crate::entries::{Accused, Heading, Notes, note_each};
+use crate::sets::{element, put_if};
+use bit_vote::Cells;
+use ftpp_base::{Ne, Set8};
+use two_round::TwoRound;
+
+/// Whether the optional rows differ.
+pub(crate) fn differ<const B: usize>(a: &Option<[u8; B]>, b: &Option<[u8; B]>) -> bool
+    ensures { result ≡ not (same_cell a.now b.now) }
+{
+    match (a, b) {
+        (Some(one), Some(other)) => one != other,
+        (None, None) => false,
+        _ => true,
+    }
+}
+
+/// What an element counts as another one's word about a sender: its own copy, or the row that the
+/// other one relayed.
+fn word<const N: usize, const B: usize>(
+    x: &TwoRound<N, B>,
+    me: Ne,
+    of: Ne,
+    sender: Ne,
+) -> Option<[u8; B]>
+    requires own { x.now.me ≡ me }
+    requires of { of < N }
+    requires sender { sender < N }
+    ensures { result ≡ word_of x.now sender of }
+{
+    if of == me {
+        x.copy(sender)
+    } else {
+        x.relayed(of, sender)
+    }
+}
+
+/// Whether a sender is another than the one whose word it is, counts, and the word differs from
+/// the result.
+fn is_off_word<const N: usize, const B: usize>(
+    x: &TwoRound<N, B>,
+    results: &Cells<N, B>,
+    counts: &Set8,
+    me: Ne,
+    of: Ne,
+    sender: Ne,
+) -> bool
+    requires whole { IsWhole N me x.now counts.now results.now }
+    requires of { of < N }
+    requires sender { sender < N }
+    ensures { result ≡ is_off_word x.now counts.now of sender }
+{
+    sender != of
+        && counts.has(sender.byte())
+        && differ(&word(x, me, of, sender), &results.get(sender.index()))
+}
+
+/// The senders about whom an element's word differs from the result.
+fn off_words<const N: usize, const B: usize>(
+    x: &TwoRound<N, B>,
+    results: &Cells<N, B>,
+    counts: &Set8,
+    me: Ne,
+    of: Ne,
+) -> Set8
+    requires whole { IsWhole N me x.now counts.now results.now }
+    requires of { of < N }
+    ensures { (s : ℕ) → s < N → has result s ≡ is_off_word x.now counts.now of s }
+{
+    let mut off = Set8 { bits: 0 };
+    for k in 0..N {
+        let sender = element(k as u8, N as u8);
+        let is_off = is_off_word(x, results, counts, me, of, sender);
+        off = put_if(&off, is_off, k as u8);
+    }
+    off
+}
+
+/// Notes the senders whose copies differ from the results.
+pub(crate) fn note_copies<const N: usize, const B: usize>(
+    x: &TwoRound<N, B>,
+    results: &Cells<N, B>,
+    counts: &Set8,
+    me: Ne,
+    heading: &Heading,
+    out: &mut Notes,
+)
+    requires whole { IsWhole N me x.now counts.now results.now }
+    requires room { length out.old.items ≤ 59 }
+    ensures items { out.new.items ≡ out.old.items ++ off_copies heading.now.cycle heading.now.kind x.now N (has counts.now) }
+    ensures few { length out.new.items ≤ length out.old.items + 4 }
+{
+    let off = off_words(x, results, counts, me, me);
+    note_each(out, heading, &Accused::Itself, N as u8, &off);
+}
+
+/// Notes the senders about whom a relay's row differs from the result.
+fn note_relay<const N: usize, const B: usize>(
+    x: &TwoRound<N, B>,
+    results: &Cells<N, B>,
+    counts: &Set8,
+    me: Ne,
+    relay: Ne,
+    heading: &Heading,
+    out: &mut Notes,
+)
+    requires whole { IsWhole N me x.now counts.now results.now }
+    requires relay { relay < N }
+    requires other { relay ≢ me }
+    requires room { length out.old.items ≤ 59 }
+    ensures items { out.new.items ≡ out.old.items ++ off_by heading.now.cycle heading.now.kind x.now N (has counts.now) relay }
+    ensures few { length out.new.items ≤ length out.old.items + 4 }
+{
+    let off = off_words(x, results, counts, me, relay);
+    note_each(out, heading, &Accused::Relay(relay), N as u8, &off);
+}
+
+/// Notes the relayed rows that differ from the results, relay by relay.
+pub(crate) fn note_relays<const N: usize, const B: usize>(
+    x: &TwoRound<N, B>,
+    results: &Cells<N, B>,
+    counts: &Set8,
+    me: Ne,
+    heading: &Heading,
+    out: &mut Notes,
+)
+    requires whole { IsWhole N me x.now counts.now results.now }
+    requires room { length out.old.items ≤ 43 }
+    ensures items { out.new.items ≡ out.old.items ++ off_relays heading.now.cycle heading.now.kind x.now N (has counts.now) }
+    ensures few { length out.new.items ≤ length out.old.items + 16 }
+{
+    for k in 0..N {
+        let relay = element(k as u8, N as u8);
+        if relay != me {
+            note_relay(x, results, counts, me, relay, heading, out);
+        }
+    }
+}
