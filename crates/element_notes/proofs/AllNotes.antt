@@ -83,16 +83,14 @@ added old more new e = ap length e ∙ length-append old more
 
 -- ---- in order
 
-pub in_order : (none a b c d e f g o1 o2 o3 o4 o5 o6 o7 : List Syndrome) → none ≡ [] → o1 ≡ none ++ a → o2 ≡ o1 ++ b → o3 ≡ o2 ++ c → o4 ≡ o3 ++ d → o5 ≡ o4 ++ e → o6 ≡ o5 ++ f → o7 ≡ o6 ++ g
+pub in_order : (none a b c d e f g o2 o3 o4 o6 o7 : List Syndrome) → none ≡ [] → o2 ≡ none ++ a ++ b → o3 ≡ o2 ++ c → o4 ≡ o3 ++ d → o6 ≡ o4 ++ e ++ f → o7 ≡ o6 ++ g
     → o7 ≡ a ++ b ++ c ++ d ++ e ++ f ++ g
-in_order none a b c d e f g o1 o2 o3 o4 o5 o6 o7 e0 e1 e2 e3 e4 e5 e6 e7 =
+in_order none a b c d e f g o2 o3 o4 o6 o7 e0 e2 e3 e4 e6 e7 =
     e7
     ∙ ap (λ l. l ++ g) e6
-    ∙ ap (λ l. l ++ f ++ g) e5
     ∙ ap (λ l. l ++ e ++ f ++ g) e4
     ∙ ap (λ l. l ++ d ++ e ++ f ++ g) e3
     ∙ ap (λ l. l ++ c ++ d ++ e ++ f ++ g) e2
-    ∙ ap (λ l. l ++ b ++ c ++ d ++ e ++ f ++ g) e1
     ∙ ap (λ l. l ++ a ++ b ++ c ++ d ++ e ++ f ++ g) e0
 
 -- and these are what the element notes

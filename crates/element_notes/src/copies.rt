@@ -1,7 +1,7 @@
 //! Copies and relayed rows that differ from the results. An exchange in two rounds goes with the
 //! results for the senders that count.
 
-ghost use Rattle.std.specs.Prelude.{◌≡◌, ◌≢◌, ℕ, ◌+◌, ◌<◌, ◌≤◌, ◌==◌, ◌&&◌, ◌++◌, not, length};
+ghost use Rattle.std.specs.Prelude.{◌≡◌, ◌≢◌, ℕ, Bool, ◌+◌, ◌<◌, ◌≤◌, ◌++◌, not, length};
 ghost use Rattle.ftpp_base.specs.Sets.{has};
 ghost use Rattle.bit_vote.specs.Vote.{same_cell};
 ghost use Rattle.two_round.specs.Echoes.{word_of};
@@ -12,7 +12,15 @@ use crate::entries::{Accused, Heading, Notes, note_each};
 use crate::sets::{element, put_if};
 use bit_vote::Cells;
 use ftpp_base::{Ne, Set8};
+use syndrome_log::SyndromeKind;
 use two_round::TwoRound;
+
+/// The kinds of the entries on an exchange: on copies, and on relayed rows.
+#[derive(Clone, Copy)]
+pub(crate) struct Kinds {
+    pub(crate) copies: SyndromeKind,
+    pub(crate) relays: SyndromeKind,
+}
 
 /// Whether the optional rows differ.
 pub(crate) fn differ<const B: usize>(a: &Option<[u8; B]>, b: &Option<[u8; B]>) -> bool
@@ -87,7 +95,7 @@ fn off_words<const N: usize, const B: usize>(
 }
 
 /// Notes the senders whose copies differ from the results.
-pub(crate) fn note_copies<const N: usize, const B: usize>(
+fn note_copies<const N: usize, const B: usize>(
     x: &TwoRound<N, B>,
     results: &Cells<N, B>,
     counts: &Set8,
@@ -126,7 +134,7 @@ fn note_relay<const N: usize, const B: usize>(
 }
 
 /// Notes the relayed rows that differ from the results, relay by relay.
-pub(crate) fn note_relays<const N: usize, const B: usize>(
+fn note_relays<const N: usize, const B: usize>(
     x: &TwoRound<N, B>,
     results: &Cells<N, B>,
     counts: &Set8,
@@ -145,4 +153,32 @@ pub(crate) fn note_relays<const N: usize, const B: usize>(
             note_relay(x, results, counts, me, relay, heading, out);
         }
     }
+}
+
+/// Notes the copies of an exchange that differ from the results, and then the relayed rows that do.
+pub(crate) fn note_exchange<const N: usize, const B: usize>(
+    x: &TwoRound<N, B>,
+    results: &Cells<N, B>,
+    counts: &Set8,
+    me: Ne,
+    kinds: &Kinds,
+    cycle: u32,
+    out: &mut Notes,
+)
+    requires whole { IsWhole N me x.now counts.now results.now }
+    requires room { length out.old.items ≤ 39 }
+    ensures items { (senders : ℕ → Bool) → ((s : ℕ) → s < N → has counts.now s ≡ senders s)
+        → out.new.items ≡ out.old.items ++ off_copies cycle kinds.now.copies x.now N senders ++ off_relays cycle kinds.now.relays x.now N senders }
+    ensures few { length out.new.items ≤ length out.old.items + 20 }
+{
+    let copies = Heading {
+        cycle,
+        kind: kinds.copies,
+    };
+    note_copies(x, results, counts, me, &copies, out);
+    let relays = Heading {
+        cycle,
+        kind: kinds.relays,
+    };
+    note_relays(x, results, counts, me, &relays, out);
 }

@@ -16,8 +16,7 @@ mod values;
 
 use bit_vote::Cells;
 use config_table::{Decision, Table};
-use copies::{note_copies, note_relays};
-use entries::Heading;
+use copies::{Kinds, note_exchange};
 use ftpp_base::{Ne, Row};
 use local_pattern::SystemPattern;
 use members::{note_absent, note_full};
@@ -27,6 +26,18 @@ use sets::all_elements;
 use syndrome_log::{Syndrome, SyndromeKind};
 use two_round::TwoRound;
 use values::note_values;
+
+/// The kinds of the entries on patterns.
+const PATTERNS: Kinds = Kinds {
+    copies: SyndromeKind::P1,
+    relays: SyndromeKind::P2,
+};
+
+/// The kinds of the entries on packets.
+const PACKETS: Kinds = Kinds {
+    copies: SyndromeKind::D1,
+    relays: SyndromeKind::D2,
+};
 
 /// What an element has at hand at the end of a cycle, each part computed once.
 #[derive(Clone, Copy)]
@@ -61,60 +72,24 @@ pub fn note<const N: usize>(seen: &Seen<N>, out: &mut Row<Syndrome, 64>)
     ensures noted { (kept : Kept) (m : Made) → HasParts seen.now.cycle seen.now.table.now seen.now.pattern.now seen.now.decision.now seen.now.patterns.now seen.now.packets.now kept m → out.new.items ≡ noted_by kept m }
     ensures few { length out.new.items ≤ 52 }
 {
-    out.clear();
     let Seen {
         me,
         cycle,
         table,
         pattern,
         decision,
-        ..
+        patterns,
+        pattern_results,
+        packets,
+        packet_results,
+        entry,
     } = *seen;
     let all = all_elements();
     let sent = relayed(decision);
-    let (p1, p2) = (SyndromeKind::P1, SyndromeKind::P2);
-    note_copies(
-        seen.patterns,
-        seen.pattern_results,
-        &all,
-        me,
-        &Heading { cycle, kind: p1 },
-        out,
-    );
-    note_relays(
-        seen.patterns,
-        seen.pattern_results,
-        &all,
-        me,
-        &Heading { cycle, kind: p2 },
-        out,
-    );
+    out.clear();
+    note_exchange(patterns, pattern_results, &all, me, &PATTERNS, cycle, out);
     note_absent(table, pattern, decision, cycle, out);
     note_full(table, pattern, decision, cycle, out);
-    let (d1, d2) = (SyndromeKind::D1, SyndromeKind::D2);
-    note_copies(
-        seen.packets,
-        seen.packet_results,
-        &sent,
-        me,
-        &Heading { cycle, kind: d1 },
-        out,
-    );
-    note_relays(
-        seen.packets,
-        seen.packet_results,
-        &sent,
-        me,
-        &Heading { cycle, kind: d2 },
-        out,
-    );
-    note_values(
-        table,
-        decision,
-        seen.packets,
-        seen.packet_results,
-        seen.entry,
-        cycle,
-        out,
-    );
+    note_exchange(packets, packet_results, &sent, me, &PACKETS, cycle, out);
+    note_values(table, decision, packets, packet_results, entry, cycle, out);
 }

@@ -3,11 +3,11 @@ use Rattle.ftpp_base.specs.Sets.{has}
 use Rattle.syndrome_log.specs.declared.SyndromeKind.TheVariants as kind
 use Rattle.run.specs.Noted.{off_copies, off_relays, absent_ones, full_ones, off_values}
 use Rattle.run.specs.Sent.{is_relayed}
-use Rattle.element_notes.proofs.AllNotes.{copies_counts, relays_counts, five_members, added, in_order, noted_parts}
+use Rattle.element_notes.proofs.AllNotes.{five_members, added, in_order, noted_parts}
 use Rattle.element_notes.proofs.note.Goals as goal
 
-pub note_copies-requires : goal.note_copies-requires
-note_copies-requires g c =
+pub note_exchange-requires : goal.note_exchange-requires
+note_exchange-requires g c =
     let none : length c.clear.new.self.items ≡ 0 = ap length c.clear.ensures in (
       grind arith,
       (
@@ -24,44 +24,8 @@ note_copies-requires g c =
       ),
     )
 
-pub note_relays-requires : goal.note_relays-requires
-note_relays-requires g c =
-    let none : length c.clear.new.self.items ≡ 0 = ap length c.clear.ensures in (
-      grind arith,
-      (
-        grind arith,
-        (
-          record {
-            few = c.requires.few;
-            among = c.requires.among;
-            own = c.requires.patterns;
-            are = λ s l e. c.requires.pattern_results s l refl;
-          },
-          omega arith,
-        ),
-      ),
-    )
-
-pub note_copies-requires-2 : goal.note_copies-requires-2
-note_copies-requires-2 g c =
-    let none : length c.clear.new.self.items ≡ 0 = ap length c.clear.ensures in (
-      grind arith,
-      (
-        grind arith,
-        (
-          record {
-            few = c.requires.few;
-            among = c.requires.among;
-            own = c.requires.packets;
-            are = λ s l e. c.requires.packet_results s l (sym (c.relayed-sent.ensures s (let few = c.requires.few in omega arith)) ∙ e);
-          },
-          omega arith,
-        ),
-      ),
-    )
-
-pub note_relays-requires-2 : goal.note_relays-requires-2
-note_relays-requires-2 g c =
+pub note_exchange-requires-2 : goal.note_exchange-requires-2
+note_exchange-requires-2 g c =
     let none : length c.clear.new.self.items ≡ 0 = ap length c.clear.ensures in (
       grind arith,
       (
@@ -82,41 +46,33 @@ pub returns-clause-noted : goal.returns-clause-noted
 returns-clause-noted g c kept m parts =
     let seen = c.args.seen.now in
     let decision = seen.decision.now in
-    let n = g.row.N in
-    let low : (s : ℕ) → s < n → s < 5 = λ s l. (let few = c.requires.few in omega arith) in
-    let every : (s : ℕ) → s < n → has c.all_elements-all.result s ≡ true = λ s l. c.all_elements-all.ensures s (low s l) in
-    let sent : (s : ℕ) → s < n → has c.relayed-sent.result s ≡ is_relayed decision s = λ s l. c.relayed-sent.ensures s (low s l) in
-    in_order c.clear.new.self.items _ _ _ _ _ _ _ _ _ _ _ _ _ _ c.clear.ensures c.note_copies.ensures.items c.note_relays.ensures.items c.note_absent.ensures.items c.note_full.ensures.items
-    c.note_copies-2.ensures.items c.note_relays-2.ensures.items c.note_values.ensures.items
+    let low : (s : ℕ) → s < g.row.N → s < 5 = λ s l. (let few = c.requires.few in omega arith) in
+    in_order c.clear.new.self.items _ _ _ _ _ _ _ _ _ _ _ _ c.clear.ensures
+    (c.note_exchange.ensures.items (λ s. true) (λ s l. c.all_elements-all.ensures s (low s l)))
+    c.note_absent.ensures.items
+    c.note_full.ensures.items
+    (c.note_exchange-2.ensures.items (is_relayed decision) (λ s l. c.relayed-sent.ensures s (low s l)))
+    c.note_values.ensures.items
     ∙ (λ t.
-    copies_counts seen.cycle kind.P1 seen.patterns.now n (has c.all_elements-all.result) (λ s. true) every t
-    ++ relays_counts seen.cycle kind.P2 seen.patterns.now n (has c.all_elements-all.result) (λ s. true) every t
+    let n = sym c.requires.elements t in
+    off_copies seen.cycle kind.P1 seen.patterns.now n (λ s. true)
+    ++ off_relays seen.cycle kind.P2 seen.patterns.now n (λ s. true)
     ++ absent_ones seen.cycle seen.table.now decision
     ++ full_ones seen.cycle seen.table.now seen.pattern.now decision
-    ++ copies_counts seen.cycle kind.D1 seen.packets.now n (has c.relayed-sent.result) (is_relayed decision) sent t
-    ++ relays_counts seen.cycle kind.D2 seen.packets.now n (has c.relayed-sent.result) (is_relayed decision) sent t
-    ++ off_values seen.cycle seen.table.now seen.packets.now decision)
-    ∙ (λ t.
-    let k = sym c.requires.elements t in
-    off_copies seen.cycle kind.P1 seen.patterns.now k (λ s. true)
-    ++ off_relays seen.cycle kind.P2 seen.patterns.now k (λ s. true)
-    ++ absent_ones seen.cycle seen.table.now decision
-    ++ full_ones seen.cycle seen.table.now seen.pattern.now decision
-    ++ off_copies seen.cycle kind.D1 seen.packets.now k (is_relayed decision)
-    ++ off_relays seen.cycle kind.D2 seen.packets.now k (is_relayed decision)
+    ++ off_copies seen.cycle kind.D1 seen.packets.now n (is_relayed decision)
+    ++ off_relays seen.cycle kind.D2 seen.packets.now n (is_relayed decision)
     ++ off_values seen.cycle seen.table.now seen.packets.now decision)
     ∙ noted_parts seen.cycle seen.table.now seen.pattern.now decision seen.patterns.now seen.packets.now kept m parts
 
 pub returns-clause-few : goal.returns-clause-few
 returns-clause-few g c =
     let seen = c.args.seen.now in
-    let cycle = seen.cycle in
     let table = seen.table.now in
     let decision = seen.decision.now in
     let none : length c.clear.new.self.items ≡ 0 = ap length c.clear.ensures in
     let elements = c.requires.elements in
     let few = c.requires.few in
-    let apart = five_members cycle table seen.packets.now decision (omega arith) in
-    let absent = added _ (absent_ones cycle table decision) _ c.note_absent.ensures.items in
-    let off = added _ (off_values cycle table seen.packets.now decision) _ c.note_values.ensures.items in
+    let apart = five_members seen.cycle table seen.packets.now decision (omega arith) in
+    let absent = added _ (absent_ones seen.cycle table decision) _ c.note_absent.ensures.items in
+    let off = added _ (off_values seen.cycle table seen.packets.now decision) _ c.note_values.ensures.items in
     omega arith
