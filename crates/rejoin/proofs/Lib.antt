@@ -1,4 +1,5 @@
-mod Pieces
-mod Walks
-mod Slots
-mod Spelled
+pub mod Pieces
+pub mod Walks
+pub mod Slots
+pub mod Spelled
+pub mod Rows

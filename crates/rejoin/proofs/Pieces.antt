@@ -1,7 +1,7 @@
 -- The pieces that are written, one after another.
-use Rattle.std.proofs.Common.{◌≡◌, ℕ, ◌+◌, ◌-◌, ◌*◌, ◌≤◌, List, [], ◌∷◌, ◌++◌, length, take, drop, replicate, refl, ap, sym, ◌∙◌, arith, append_assoc, Some}
+use Rattle.std.proofs.Common.{◌≡◌, ℕ, ◌-◌, ◌*◌, ◌≤◌, List, [], ◌∷◌, ◌++◌, length, take, drop, replicate, refl, ap, sym, ◌∙◌, arith, append_assoc, Some}
 use Rattle.std.specs.List.{flat_map}
-use Rattle.std.proofs.lemmas.List.{take-replicate, drop-replicate, length-replicate}
+use Rattle.std.proofs.lemmas.List.{take-replicate, drop-replicate}
 use Rattle.ftpp_base.specs.declared.element.Proc.{Proc}
 use Rattle.packet_format.specs.Numbers.{two_bytes, four_bytes}
 use Rattle.packet_format.specs.Packets.{filled_up}
@@ -9,8 +9,7 @@ use Rattle.packet_format.specs.declared.Descriptor.{Descriptor}
 use Rattle.config_table.specs.declared.groups.Group.{Group}
 use Rattle.config_table.specs.declared.decisions.StateRow.{StateRow}
 use Rattle.config_table.specs.Groups.{members_of}
-use Rattle.config_table.specs.Table.{TableValue}
-use Rattle.rejoin.specs.State.{member_bytes, group_bytes, request_bytes, row_bytes, slot_bytes, slots_bytes, head_bytes, state_bytes}
+use Rattle.rejoin.specs.State.{member_bytes, group_bytes, request_bytes, row_bytes, slot_bytes}
 
 pub three_pieces : (text a b c : List ℕ) → text ++ (a ++ b ++ c) ≡ ((text ++ a) ++ b) ++ c
 three_pieces text a b c = simp append_assoc

@@ -1,6 +1,6 @@
 -- The bytes of a state are read to that state, so they are of one state at most.
 use Rattle.std.proofs.Common.{◌≡◌, ℕ, ◌+◌, ◌-◌, ◌*◌, ◌<◌, ◌≤◌, ◌^◌, zero, suc, Bool, true, false, List, [], ◌∷◌, ◌++◌, Option, Some, None, length, get_or, replicate, take, drop, map, refl, sym, ◌∙◌, ap, arith, subst, append_assoc, length-append, drop-cons}
-use Rattle.std.specs.Prelude.{not, All, IfSome, min, slice_index, slice_range}
+use Rattle.std.specs.Prelude.{not, All, IfSome, slice_index, slice_range}
 use Rattle.std.specs.List.{flat_map, zip, range_with_len, AllByRecursion}
 use Rattle.std.proofs.Math.Seq.{drop-append-add, drop-append_seam, take-append_seam}
 use Rattle.std.proofs.lemmas.List.{ext_get_or, drop-drop, get_or-drop}
@@ -10,7 +10,6 @@ use Rattle.std.proofs.lemmas.Slice.Zip.{get_or-zip}
 use Rattle.packet_format.specs.declared.Descriptor.{Descriptor}
 use Rattle.config_table.specs.declared.groups.Group.{Group}
 use Rattle.config_table.specs.declared.decisions.StateRow.{StateRow}
-use Rattle.config_table.specs.Groups.{members_of}
 use Rattle.config_table.specs.Bounds.{IsBounded}
 use Rattle.config_table.specs.Table.{TableValue, IsValid}
 use Rattle.config_table.proofs.Bounded.{bounded-valid, few_groups}
@@ -99,6 +98,9 @@ small_request : (now : ℕ) (request : Option (Descriptor × ℕ × ℕ)) → no
 small_request now None few fits = tt
 small_request now (Some waiting) few fits = (let since = fits.0 in omega arith, let starved = fits.1 in omega arith)
 
+small_lags : (now : ℕ) (lags : List ℕ) → now ≤ 100000 → All (λ lag. lag ≤ now) lags → All (λ lag. lag < 2 ^ 32) lags
+small_lags now lags few fit = All-weaker (λ lag. lag ≤ now) (λ lag. lag < 2 ^ 32) (λ lag most. omega arith) lags fit
+
 module _ (now : ℕ) (table : TableValue) (rows : List StateRow) (right : IsInRange now table rows) where
   module _ (i : ℕ) (d : Group × StateRow) (h : i < length (zip table.groups rows)) where
     in_groups : i < length table.groups
@@ -147,7 +149,7 @@ module _ (now : ℕ) (table : TableValue) (rows : List StateRow) (right : IsInRa
         let row = cut_row (head_bytes now table) behind (zip table.groups rows) refl all_whole i (no_group, no_row) p h refl (whole_at i (no_group, no_row) h) in
         (λ t. row_from (number t) (row t))
         ∙ ap (λ v. row_from v (row_bytes p.1)) (sym fit.number)
-        ∙ row_read p.1 (small_request now p.1.request top fit.request) fit.four (All-weaker (λ lag. lag ≤ now) (λ lag. lag < 2 ^ 32) (λ lag most. omega arith) p.1.lags fit.lags)
+        ∙ row_read p.1 (small_request now p.1.request top fit.request) fit.four (small_lags now p.1.lags top fit.lags)
         ∙ ap (λ (q : Group × StateRow). q.1) (there i (no_group, no_row) h)
 
   count_from-state : count_from (state_bytes now table rows) ≡ length table.groups

@@ -1,5 +1,5 @@
 -- What is read or written one after the other, up to one place.
-use Rattle.std.proofs.Common.{◌≡◌, ℕ, ◌+◌, ◌*◌, ◌<◌, ◌≤◌, List, [], ◌∷◌, ◌++◌, None, length, get_or, take, map, sym, ◌∙◌, ap, arith, append_assoc, append-nil, subst, take_all}
+use Rattle.std.proofs.Common.{◌≡◌, ℕ, ◌+◌, ◌<◌, ◌≤◌, List, [], ◌∷◌, ◌++◌, None, length, get_or, take, map, sym, ◌∙◌, ap, arith, append_assoc, append-nil, subst, take_all}
 use Rattle.std.specs.Prelude.{All}
 use Rattle.std.specs.List.{flat_map, zip, range_with_len}
 use Rattle.std.proofs.lemmas.Grind.{flat_map-append}

@@ -9,7 +9,7 @@ mod writing;
 
 use config_table::{StateRow, Table};
 use ftpp_base::Row;
-pub use laws::one_spelling;
+pub use laws::{made_of_groups, one_spelling, rows_of_groups};
 pub use reading::decode_state;
 pub use writing::encode_state;
 
