@@ -3,6 +3,7 @@
 
 ghost use Rattle.std.specs.Prelude.{◌≡◌, ◌<◌, ◌≤◌};
 ghost use Rattle.ftpp_base.specs.Lists.{cell_at, each_below};
+ghost use Rattle.two_round.specs.Echoes.{Echoes, result_for};
 ghost use Rattle.local_pattern.specs.Pattern.{read_column};
 ghost use Rattle.pattern_exchange.specs.Settled.{settled};
 
@@ -23,7 +24,8 @@ fn column<const N: usize>(results: &Cells<N, 32>, source: Ne) -> LocalPattern
 /// an entry outside the grammar, show no request and no space.
 pub fn pattern_of<const N: usize>(results: &Cells<N, 32>) -> SystemPattern<N>
     requires { N ≤ 5 }
-    ensures { result ≡ each_below N (λ s. read_column (cell_at results.now s)) }
+    ensures read { result ≡ each_below N (λ s. read_column (cell_at results.now s)) }
+    ensures settled { (x : Echoes) → results.now ≡ each_below N (result_for x) → result ≡ settled N x }
 {
     let mut pattern = SystemPattern::quiet();
     for k in 0..N {
