@@ -14,7 +14,8 @@ use Rattle.element_ports.specs.Ports.{PortsValue}
 use Rattle.element_ports.proofs.PortChanges.{change_at-none}
 
 -- at the receiver, if there is one
-none_to : (table : TableValue) (cycle : ℕ) (service : Service) (ports : List Queues) (found : Option Proc) → delivered_to table cycle service None ports found ≡ ports
+none_to : (table : TableValue) (cycle : ℕ) (service : Service) (ports : List Queues) (found : Option Proc)
+    → delivered_to table cycle service None ports found ≡ ports
 none_to table cycle service ports None = refl
 none_to table cycle service ports (Some proc) = change_at-none (after_entry (in_limit table proc) cycle service None) ports proc.port (λ q. refl)
 

@@ -51,7 +51,8 @@ live_elsewhere masked members i d ne b l is shows other =
 -- ---- the admitted member
 
 -- one member more, by whether it is admitted (b), whether it stands at the element (e), and whether that is admitted (a)
-admitted_by : (b e a : Bool) (p : Proc) (kept : List Proc) (ne : ℕ) (found : Option Proc) → (p.ne == ne) ≡ e → (e ≡ true → b ≡ a) → member_at kept ne ≡ cond a found None
+admitted_by : (b e a : Bool) (p : Proc) (kept : List Proc) (ne : ℕ) (found : Option Proc)
+    → (p.ne == ne) ≡ e → (e ≡ true → b ≡ a) → member_at kept ne ≡ cond a found None
     → member_at (cond b (p ∷ kept) kept) ne ≡ cond a (cond e (Some p) found) None
 admitted_by true true true p kept ne found at same rest = ap (λ x. cond x (Some p) (member_at kept ne)) at
 admitted_by true true false p kept ne found at same rest = let no : true ≡ false = same refl in cc
@@ -63,7 +64,8 @@ admitted_by false false true p kept ne found at same rest = rest
 admitted_by false false false p kept ne found at same rest = rest
 
 -- the admitted member at an element is the member there, if the element is admitted
-pub admitted_member : (admitted : Set8) (procs : List Proc) (ne : ℕ) → member_at (filter (is_admitted admitted) procs) ne ≡ cond (has admitted ne) (member_at procs ne) None
+pub admitted_member : (admitted : Set8) (procs : List Proc) (ne : ℕ)
+    → member_at (filter (is_admitted admitted) procs) ne ≡ cond (has admitted ne) (member_at procs ne) None
 admitted_member admitted [] ne = none (has admitted ne) where
   none : (b : Bool) → (let o : Option Proc = None in o) ≡ cond b None None
   none true = refl

@@ -76,5 +76,5 @@ pub ins_by_table : (table : TableValue) (me : ℕ) (items : List Buffers) (i : �
     → proc.ne ≡ me → proc.port < 8 → b.ins ≡ in_limit table proc
 ins_by_table table me items i proc ports b limits is l place at here small =
     sym (ins_seen me items i proc.port ports b is l place at)
-    ∙ (limits proc.port small).input
+    ∙ (limits proc.port small).1
     ∙ ap (λ ne. in_limit table (proc_at ne proc.port)) (sym (here ∙ ap (λ (v : PortsValue). v.me) is))

@@ -10,7 +10,8 @@ use Rattle.config_table.specs.Table.{TableValue, IsValid, is_named, group_named,
 use Rattle.config_table.proofs.NamedGroups.{Ascending, Ascending-valid}
 use Rattle.table_update.specs.declared.Update.{Update}
 use Rattle.table_update.specs.declared.Update.TheVariants.{Mask, Admit, Timeouts, Dissolve, Form}
-use Rattle.table_update.specs.Updates.{with_masked, with_admitted, with_timeouts, formed, with_changed, without_group, with_formed, all_members, ports_to_clear, has_member, where_there, updated}
+use Rattle.table_update.specs.Updates.{with_masked, with_admitted, with_timeouts, formed, with_changed, without_group, with_formed}
+use Rattle.table_update.specs.Updates.{all_members, ports_to_clear, has_member, where_there, updated}
 
 -- whether a processor is among some
 abbrev pub is_listed : Proc → List Proc → Bool
@@ -26,14 +27,16 @@ limits_in gs proc = limits (find (λ g. is_member g proc) gs)
 -- ---- one group changed, with its members and its limits as they were
 
 -- the limits by the one found first
-limits_if : (b c : Bool) (x y : Group) (o p : Option Group) → b ≡ c → limits (Some x) ≡ limits (Some y) → limits o ≡ limits p → limits (cond b (Some x) o) ≡ limits (cond c (Some y) p)
+limits_if : (b c : Bool) (x y : Group) (o p : Option Group)
+    → b ≡ c → limits (Some x) ≡ limits (Some y) → limits o ≡ limits p → limits (cond b (Some x) o) ≡ limits (cond c (Some y) p)
 limits_if true true x y o p e same more = same
 limits_if true false x y o p e same more = cc
 limits_if false true x y o p e same more = cc
 limits_if false false x y o p e same more = more
 
 -- a changed group has the same members and the same limits
-member_if : (b : Bool) (change : Group → Group) (g : Group) (proc : Proc) → members_of (change g) ≡ members_of g → is_member (cond b (change g) g) proc ≡ is_member g proc
+member_if : (b : Bool) (change : Group → Group) (g : Group) (proc : Proc) → members_of (change g) ≡ members_of g
+    → is_member (cond b (change g) g) proc ≡ is_member g proc
 member_if true change g proc e = ap (list_any (same_proc proc)) e
 member_if false change g proc e = refl
 
@@ -77,7 +80,8 @@ gone_by true vid g gs proc e greater missing more =
     ap (λ hs. limits_in hs proc) (ap (λ k. without_group k gs) (sym (eqb-true g.vid vid e)) ∙ none_gone g.vid gs greater)
     ∙ sym (ap (λ b. limits (cond b (Some g) (find (λ h. is_member h proc) gs))) missing)
 gone_by false vid g gs proc e greater missing more =
-    limits_if (is_member g proc) (is_member g proc) g g (find (λ h. is_member h proc) (without_group vid gs)) (find (λ h. is_member h proc) gs) refl refl (more missing)
+    limits_if (is_member g proc) (is_member g proc) g g (find (λ h. is_member h proc) (without_group vid gs)) (find (λ h. is_member h proc) gs)
+    refl refl (more missing)
 
 -- with one group gone the limits of the others stay
 limits-gone : (vid : ℕ) (gs : List Group) (proc : Proc) → Ascending gs → is_member_of (find (is_named vid) gs) proc ≡ false
@@ -154,13 +158,15 @@ formed_keeps true table new proc e = inl e
 formed_keeps false table new proc e = inr (limits-formed new table.groups proc e)
 
 -- each update clears a port or keeps its limits
-updated_keeps : (table : TableValue) (update : Update) (proc : Proc) → Ascending table.groups → MayKeepLimits table (ports_to_clear table update) proc (updated table update)
+updated_keeps : (table : TableValue) (update : Update) (proc : Proc) → Ascending table.groups
+    → MayKeepLimits table (ports_to_clear table update) proc (updated table update)
 unfolding updated
 updated_keeps table (Mask vid member) proc a =
     where_keeps (has_member member (group_named table vid)) table (with_changed (with_masked member) vid table.groups) [] proc
     (inr (limits-changed (with_masked member) vid table.groups proc (λ g. refl) (λ g. refl)))
 updated_keeps table (Admit vid member) proc a =
-    where_keeps (has_member member (group_named table vid)) table (with_changed (with_admitted member) vid table.groups) (ports_to_clear table (Admit vid member)) proc
+    where_keeps (has_member member (group_named table vid)) table (with_changed (with_admitted member) vid table.groups)
+    (ports_to_clear table (Admit vid member)) proc
     (inr (limits-changed (with_admitted member) vid table.groups proc (λ g. refl) (λ g. refl)))
 updated_keeps table (Timeouts vid ts tr) proc a =
     where_keeps (is_some (group_named table vid)) table (with_changed (with_timeouts ts tr) vid table.groups) [] proc

@@ -64,7 +64,8 @@ of_formed P new [] a = a.0
 of_formed P new (g ∷ gs) a = formed_by P (nat_lt new.vid g.vid) new g gs (of_formed P new gs) a
 
 -- those that an update clears
-cleared_there : (table new : TableValue) (update : Update) → IsValid table → IsValid new → updated table update ≡ Some new → AreThere (ports_to_clear table update)
+cleared_there : (table new : TableValue) (update : Update) → IsValid table → IsValid new → updated table update ≡ Some new
+    → AreThere (ports_to_clear table update)
 unfolding updated
 cleared_there table new (Mask vid member) valid next given = All-nil (λ proc. proc.port < 8)
 cleared_there table new (Admit vid member) valid next given =
@@ -77,18 +78,20 @@ cleared_there table new (Form vid members ts tr) valid next given =
     let same : record table { groups = with_formed (formed vid members ts tr) table.groups } ≡ new = cc in
     let groups = subst (λ (t : TableValue). All (IsBounded t.n) t.groups) (sym same) (bounded-valid new next) in
     of_bounded table.n (formed vid members ts tr)
-    (of_formed (IsBounded table.n) (formed vid members ts tr) table.groups (recursion_from_All (IsBounded table.n) (with_formed (formed vid members ts tr) table.groups) groups))
+    (of_formed (IsBounded table.n) (formed vid members ts tr) table.groups
+    (recursion_from_All (IsBounded table.n) (with_formed (formed vid members ts tr) table.groups) groups))
 
 -- ---- the ports can follow
 
 -- one port, by what the update does to its processor
-follows : (table new : TableValue) (cleared : List Proc) (ports : PortsValue) (port : ℕ) → HasLimitsAt table ports port → KeepsLimits table cleared (proc_at ports.me port) new
+follows : (table new : TableValue) (cleared : List Proc) (ports : PortsValue) (port : ℕ) → HasLimitsAt table ports port
+    → KeepsLimits table cleared (proc_at ports.me port) new
     → (is_listed (proc_at ports.me port) cleared ≡ true) ⊎ HasLimitsAt new ports port
 follows table new cleared ports port had (inl e) = inl e
-follows table new cleared ports port had (inr same) = inr record { output = had.output ∙ sym same.0; input = had.input ∙ sym same.1 }
+follows table new cleared ports port had (inr same) = inr (had.0 ∙ sym same.0, had.1 ∙ sym same.1)
 
-can : (table new : TableValue) (update : Update) (procs : ArrayVec Proc) (ports : PortsValue) → IsValid table → HasLimits table ports → IsDone table new update procs
-    → CanGoOver new (ports_to_clear table update) ports
+can : (table new : TableValue) (update : Update) (procs : ArrayVec Proc) (ports : PortsValue)
+    → IsValid table → HasLimits table ports → IsDone table new update procs → CanGoOver new (ports_to_clear table update) ports
 can table new update procs ports valid had done = record {
   there = cleared_there table new update valid done.valid done.given;
   others = λ port l.

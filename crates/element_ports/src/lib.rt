@@ -10,3 +10,6 @@ mod showing;
 mod updating;
 
 pub use ports::Ports;
+
+#[cfg(test)]
+mod tests;

@@ -97,6 +97,8 @@ impl Ports {
             → self.new ≡ record self.old { queues = own_act table self.old.queues (Post (proc_at self.old.me port) desc packet) } }
         ensures answer { (table : TableValue) → HasLimits table self.old
             → is_ok result ≡ has_out_room (out_limit table (proc_at self.old.me port)) (port_queues self.old.queues port) }
+        ensures me { self.new.me ≡ self.old.me }
+        ensures limits { (table : TableValue) → HasLimits table self.old → HasLimits table self.new }
     {
         let buffers = &mut self.buffers[usize::from(port)];
         buffers.post(desc, packet)
@@ -107,6 +109,8 @@ impl Ports {
         requires { port < 8 }
         ensures ports { (table : TableValue) → self.new ≡ record self.old { queues = own_act table self.old.queues (Read (proc_at self.old.me port)) } }
         ensures answer { result ≡ first (port_queues self.old.queues port).input }
+        ensures me { self.new.me ≡ self.old.me }
+        ensures limits { (table : TableValue) → HasLimits table self.old → HasLimits table self.new }
     {
         let buffers = &mut self.buffers[usize::from(port)];
         buffers.read()

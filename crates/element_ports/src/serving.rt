@@ -1,7 +1,7 @@
 //! What an exchange or a discard does at the ports of one element.
 
 ghost use Rattle.std.specs.Prelude.{◌≡◌, ◌<◌, option_copied};
-ghost use Rattle.config_table.specs.Table.{in_limit};
+ghost use Rattle.config_table.specs.Table.{TableValue};
 ghost use Rattle.processor_buffers.specs.Queues.{after_pop, head_of};
 ghost use Rattle.data_exchange.specs.Entries.{member_at, own_row, packet_of_head};
 ghost use Rattle.run.specs.Processors.{port_queues};
@@ -68,7 +68,9 @@ impl Ports {
 
     /// Takes the head of the member here that was admitted to an exchange or a discard, if that carries the request.
     pub fn serve(&mut self, table: &Table, decision: &Decision)
-        ensures { (kept : Kept) → IsKeptWith table.now self.old kept → self.new ≡ record self.old { queues = own_service kept decision.now } }
+        ensures ports { (kept : Kept) → IsKeptWith table.now self.old kept → self.new ≡ record self.old { queues = own_service kept decision.now } }
+        ensures me { self.new.me ≡ self.old.me }
+        ensures limits { (table : TableValue) → HasLimits table self.old → HasLimits table self.new }
     {
         match decision {
             Decision::Idle => {}
@@ -111,6 +113,8 @@ impl Ports {
             → self.new ≡ record self.old { queues = own_delivery kept decision.now (option_copied entry.entry) self.old.queues } }
         ensures handed { (kept : Kept) → kept.me ≡ self.old.me → kept.table ≡ table.now
             → result ≡ own_handed kept decision.now (option_copied entry.entry) self.old.queues }
+        ensures me { self.new.me ≡ self.old.me }
+        ensures limits { HasLimits table.now self.new }
     {
         let Decision::Exchange(service) = decision else {
             return None;

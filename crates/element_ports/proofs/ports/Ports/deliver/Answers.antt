@@ -10,4 +10,5 @@ pub returns-in_default-entry-clause-ports : goal.returns-in_default-entry-clause
 returns-in_default-entry-clause-ports c kept me table cycle =
     let ports = c.args.self.now in
     none-delivered kept c.args.decision.now ports
-    ∙ ap (λ (o : Option (Bor Packet)). record ports { queues = own_delivery kept c.args.decision.now (option_copied o) ports.queues }) (sym c.in_default-entry.is)
+    ∙ ap (λ (o : Option (Bor Packet)). record ports { queues = own_delivery kept c.args.decision.now (option_copied o) ports.queues })
+    (sym c.in_default-entry.is)

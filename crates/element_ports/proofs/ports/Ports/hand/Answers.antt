@@ -27,14 +27,15 @@ returns-in-Some-clause-ports c =
     let table = c.args.table.now in
     let service = c.args.service.now in
     let entry : Option Packet = Some c.args.packet.now in
-    let limit = ins_by_table table me items at proc old buffers c.requires c.self.view_is (omega (arith, here.there.1)) c.from.ensures is here.there.0 here.there.1 in
+    let small = here.there.1 in
+    let limit = ins_by_table table me items at proc old buffers c.requires c.self.view_is (omega arith) c.from.ensures is here.there.0 small in
     let found = here.member ∙ ap (λ (v : PortsValue). member_at (receivers table service) v.me) c.self.view_is in
     let stored =
     c.deliver.ensures.queues
     ∙ ap (λ (n : ℕ). buffers_after (after_delivery n c.delivered_by.result) buffers) limit
     ∙ ap (λ (d : Delivered). buffers_after (after_delivery (in_limit table proc) d) buffers) c.delivered_by.ensures in
     seen-changed (after_entry (in_limit table proc) c.args.cycle service entry) me items at proc.port old buffers c.deliver.new.self
-    c.self.view_is (omega (arith, here.there.1)) c.from.ensures is stored
+    c.self.view_is (omega arith) c.from.ensures is stored
     ∙ ap (λ (o : Option Proc). record old { queues = delivered_to table c.args.cycle service entry old.queues o }) found
 
 pub returns-in-Some-clause-handed : goal.returns-in-Some-clause-handed
@@ -48,8 +49,9 @@ returns-in-Some-clause-handed c =
     let buffers = c.index_mut-buffers.result.now in
     let is = c.index_mut-buffers.ensures.value in
     let table = c.args.table.now in
-    let limit = ins_by_table table me items at proc old buffers c.requires c.self.view_is (omega (arith, here.there.1)) c.from.ensures is here.there.0 here.there.1 in
-    let queues = queues_seen me items at proc.port old buffers no_queues c.self.view_is (omega (arith, here.there.1)) c.from.ensures is in
+    let small = here.there.1 in
+    let limit = ins_by_table table me items at proc old buffers c.requires c.self.view_is (omega arith) c.from.ensures is here.there.0 small in
+    let queues = queues_seen me items at proc.port old buffers no_queues c.self.view_is (omega arith) c.from.ensures is in
     let found = here.member ∙ ap (λ (v : PortsValue). member_at (receivers table c.args.service.now) v.me) c.self.view_is in
     ap (λ (h : Handed). Some (proc, h))
     (c.deliver.ensures.handed ∙ ap (λ (n : ℕ). handed_by n buffers.queues) limit ∙ ap (λ (q : Queues). handed_by (in_limit table proc) q) (sym queues))
