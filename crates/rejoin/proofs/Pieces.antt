@@ -23,9 +23,11 @@ request_pieces text desc since starved = three_pieces text (1 ∷ desc.dest ∷ 
 
 pub group_pieces : (text : List ℕ) (g : Group)
     → text ++ group_bytes g
-    ≡ ((((((text ++ (g.vid ∷ length (members_of g) ∷ [])) ++ filled_up 8 (flat_map member_bytes (members_of g))) ++ (g.masked.bits ∷ [])) ++ two_bytes g.ts) ++ two_bytes g.tr) ++ two_bytes g.tx) ++ (g.outs ∷ g.ins ∷ [])
+    ≡ ((((((text ++ (g.vid ∷ length (members_of g) ∷ [])) ++ filled_up 8 (flat_map member_bytes (members_of g))) ++ (g.masked.bits ∷ []))
+    ++ two_bytes g.ts) ++ two_bytes g.tr) ++ two_bytes g.tx) ++ (g.outs ∷ g.ins ∷ [])
 group_pieces text g =
-    seven_pieces text (g.vid ∷ length (members_of g) ∷ []) (filled_up 8 (flat_map member_bytes (members_of g))) (g.masked.bits ∷ []) (two_bytes g.ts) (two_bytes g.tr) (two_bytes g.tx) (g.outs ∷ g.ins ∷ [])
+    seven_pieces text (g.vid ∷ length (members_of g) ∷ []) (filled_up 8 (flat_map member_bytes (members_of g)))
+    (g.masked.bits ∷ []) (two_bytes g.ts) (two_bytes g.tr) (two_bytes g.tx) (g.outs ∷ g.ins ∷ [])
 
 pub slot_pieces : (text : List ℕ) (g : Group) (row : StateRow) → text ++ slot_bytes (g, row) ≡ (text ++ group_bytes g) ++ row_bytes row
 unfolding slot_bytes

@@ -37,10 +37,14 @@ group_back : (vid : ℕ) (ms : List Proc) (masked ts tr tx outs ins : ℕ) → l
     → group_from (group_bytes (group_with vid ms masked ts tr tx outs ins)) ≡ group_with vid ms masked ts tr tx outs ins
 unfolding group_from
 group_back vid [] masked ts tr tx outs ins few a b c = λ i. group_with vid [] masked (number-two ts a i) (number-two tr b i) (number-two tx c i) outs ins
-group_back vid (p ∷ []) masked ts tr tx outs ins few a b c = λ i. group_with vid (p ∷ []) masked (number-two ts a i) (number-two tr b i) (number-two tx c i) outs ins
-group_back vid (p ∷ q ∷ []) masked ts tr tx outs ins few a b c = λ i. group_with vid (p ∷ q ∷ []) masked (number-two ts a i) (number-two tr b i) (number-two tx c i) outs ins
-group_back vid (p ∷ q ∷ r ∷ []) masked ts tr tx outs ins few a b c = λ i. group_with vid (p ∷ q ∷ r ∷ []) masked (number-two ts a i) (number-two tr b i) (number-two tx c i) outs ins
-group_back vid (p ∷ q ∷ r ∷ s ∷ []) masked ts tr tx outs ins few a b c = λ i. group_with vid (p ∷ q ∷ r ∷ s ∷ []) masked (number-two ts a i) (number-two tr b i) (number-two tx c i) outs ins
+group_back vid (p ∷ []) masked ts tr tx outs ins few a b c =
+    λ i. group_with vid (p ∷ []) masked (number-two ts a i) (number-two tr b i) (number-two tx c i) outs ins
+group_back vid (p ∷ q ∷ []) masked ts tr tx outs ins few a b c =
+    λ i. group_with vid (p ∷ q ∷ []) masked (number-two ts a i) (number-two tr b i) (number-two tx c i) outs ins
+group_back vid (p ∷ q ∷ r ∷ []) masked ts tr tx outs ins few a b c =
+    λ i. group_with vid (p ∷ q ∷ r ∷ []) masked (number-two ts a i) (number-two tr b i) (number-two tx c i) outs ins
+group_back vid (p ∷ q ∷ r ∷ s ∷ []) masked ts tr tx outs ins few a b c =
+    λ i. group_with vid (p ∷ q ∷ r ∷ s ∷ []) masked (number-two ts a i) (number-two tr b i) (number-two tx c i) outs ins
 group_back vid (p ∷ q ∷ r ∷ s ∷ t ∷ more) masked ts tr tx outs ins few a b c = let no_such : ⊥ = omega arith in absurd no_such
 
 pub group_read : (g : Group) → length (members_of g) ≤ 4 → g.ts < 2 ^ 16 → g.tr < 2 ^ 16 → g.tx < 2 ^ 16 → group_from (group_bytes g) ≡ g
@@ -72,7 +76,8 @@ row_of : (vid : ℕ) (request : Option (Descriptor × ℕ × ℕ)) (a b c d : �
 unfolding row_from request_from
 row_of vid None a b c d small ha hb hc hd = λ i. row_with vid None (number-four a ha i ∷ number-four b hb i ∷ number-four c hc i ∷ number-four d hd i ∷ [])
 row_of vid (Some (desc, since, starved)) a b c d small ha hb hc hd =
-    λ i. row_with vid (Some (desc, number-four since small.0 i, number-four starved small.1 i)) (number-four a ha i ∷ number-four b hb i ∷ number-four c hc i ∷ number-four d hd i ∷ [])
+    λ i. row_with vid (Some (desc, number-four since small.0 i, number-four starved small.1 i))
+    (number-four a ha i ∷ number-four b hb i ∷ number-four c hc i ∷ number-four d hd i ∷ [])
 
 row_back : (vid : ℕ) (request : Option (Descriptor × ℕ × ℕ)) (lags : List ℕ) → IsSmall request → length lags ≡ 4 → AllByRecursion (λ lag. lag < 2 ^ 32) lags
     → row_from vid (row_bytes (row_with vid request lags)) ≡ row_with vid request lags

@@ -1,6 +1,6 @@
 -- The bytes of a state are read to that state, so they are of one state at most.
 use Rattle.std.proofs.Common.{◌≡◌, ℕ, ◌+◌, ◌-◌, ◌*◌, ◌<◌, ◌≤◌, ◌^◌, zero, suc, Bool, true, false, List, [], ◌∷◌, ◌++◌, Option, Some, None, length, get_or, replicate, take, drop, map, refl, sym, ◌∙◌, ap, arith, subst, append_assoc, length-append, drop-cons}
-use Rattle.std.specs.Prelude.{not, All, IfSome, slice_index, slice_range}
+use Rattle.std.specs.Prelude.{not, All, slice_index, slice_range}
 use Rattle.std.specs.List.{flat_map, zip, range_with_len, AllByRecursion}
 use Rattle.std.proofs.Math.Seq.{drop-append-add, drop-append_seam, take-append_seam}
 use Rattle.std.proofs.lemmas.List.{ext_get_or, drop-drop, get_or-drop}
@@ -14,7 +14,7 @@ use Rattle.config_table.specs.Bounds.{IsBounded}
 use Rattle.config_table.specs.Table.{TableValue, IsValid}
 use Rattle.config_table.proofs.Bounded.{bounded-valid, few_groups}
 use Rattle.rejoin.specs.declared.AgreedState.{AgreedState}
-use Rattle.rejoin.specs.State.{slots_bytes, group_bytes, row_bytes, slot_bytes, head_bytes, state_bytes, RowFits, IsInRange, IsState}
+use Rattle.rejoin.specs.State.{slots_bytes, group_bytes, row_bytes, slot_bytes, head_bytes, state_bytes, RequestFits, RowFits, IsInRange, IsState}
 use Rattle.rejoin.specs.Reading.{number_at, group_from, row_from, group_at, row_at, count_from, groups_from, rows_from, table_from}
 use Rattle.rejoin.proofs.Walks.{no_row, length-pairs}
 use Rattle.rejoin.proofs.Slots.{number-four, group_with, group_read, length-group, IsSmall, row_read, length-row}
@@ -46,55 +46,58 @@ begins : (pair : Group × StateRow) (rest : List ℕ) → slot_bytes pair ++ res
 unfolding slot_bytes
 begins pair rest = append_assoc (group_bytes pair.0) (row_bytes pair.1) rest
 
-module _ (head zeros : List ℕ) (pairs : List (Group × StateRow)) (seven : length head ≡ 7) (whole : AllByRecursion IsWhole pairs) (i : ℕ) (d pair : Group × StateRow) (h : i < length pairs) (here : get_or pairs i d ≡ pair) (is : IsWhole pair) where
-  -- the bytes from a slot on
-  from_slot : drop (7 + 47 * i) ((head ++ flat_map slot_bytes pairs) ++ zeros) ≡ group_bytes pair.0 ++ (row_bytes pair.1 ++ (flat_map slot_bytes (drop (suc i) pairs) ++ zeros))
-  from_slot =
-      let at : 7 + 47 * i ≡ length head + 47 * i = omega arith in
-      ap (λ n. drop n ((head ++ flat_map slot_bytes pairs) ++ zeros)) at
-      ∙ ap (drop (length head + 47 * i)) (append_assoc head (flat_map slot_bytes pairs) zeros)
-      ∙ drop-append-add head (flat_map slot_bytes pairs ++ zeros) (47 * i)
-      ∙ drop-slots i pairs zeros whole (omega arith)
-      ∙ ap (λ l. flat_map slot_bytes l ++ zeros) (drop-cons pairs i d h)
-      ∙ ap (λ p. (slot_bytes p ++ flat_map slot_bytes (drop (suc i) pairs)) ++ zeros) here
-      ∙ append_assoc (slot_bytes pair) (flat_map slot_bytes (drop (suc i) pairs)) zeros
-      ∙ begins pair (flat_map slot_bytes (drop (suc i) pairs) ++ zeros)
+module _ (head zeros : List ℕ) (pairs : List (Group × StateRow)) (seven : length head ≡ 7) (whole : AllByRecursion IsWhole pairs) where
+  module _ (i : ℕ) (d pair : Group × StateRow) (h : i < length pairs) (here : get_or pairs i d ≡ pair) (is : IsWhole pair) where
+    -- the bytes from a slot on
+    from_slot : drop (7 + 47 * i) ((head ++ flat_map slot_bytes pairs) ++ zeros)
+        ≡ group_bytes pair.0 ++ (row_bytes pair.1 ++ (flat_map slot_bytes (drop (suc i) pairs) ++ zeros))
+    from_slot =
+        let at : 7 + 47 * i ≡ length head + 47 * i = omega arith in
+        ap (λ n. drop n ((head ++ flat_map slot_bytes pairs) ++ zeros)) at
+        ∙ ap (drop (length head + 47 * i)) (append_assoc head (flat_map slot_bytes pairs) zeros)
+        ∙ drop-append-add head (flat_map slot_bytes pairs ++ zeros) (47 * i)
+        ∙ drop-slots i pairs zeros whole (omega arith)
+        ∙ ap (λ l. flat_map slot_bytes l ++ zeros) (drop-cons pairs i d h)
+        ∙ ap (λ p. (slot_bytes p ++ flat_map slot_bytes (drop (suc i) pairs)) ++ zeros) here
+        ∙ append_assoc (slot_bytes pair) (flat_map slot_bytes (drop (suc i) pairs)) zeros
+        ∙ begins pair (flat_map slot_bytes (drop (suc i) pairs) ++ zeros)
 
-  -- its group's bytes
-  pub cut_group : slice_range ((head ++ flat_map slot_bytes pairs) ++ zeros) (7 + 47 * i) (26 + 47 * i) ≡ group_bytes pair.0
-  cut_group =
-      let long = is.group in
-      let size : (26 + 47 * i) - (7 + 47 * i) ≡ length (group_bytes pair.0) = omega arith in
-      (λ t. take (size t) (from_slot t)) ∙ take-append_seam (group_bytes pair.0) (row_bytes pair.1 ++ (flat_map slot_bytes (drop (suc i) pairs) ++ zeros))
+    -- its group's bytes
+    pub cut_group : slice_range ((head ++ flat_map slot_bytes pairs) ++ zeros) (7 + 47 * i) (26 + 47 * i) ≡ group_bytes pair.0
+    cut_group =
+        let long = is.group in
+        let size : (26 + 47 * i) - (7 + 47 * i) ≡ length (group_bytes pair.0) = omega arith in
+        (λ t. take (size t) (from_slot t)) ∙ take-append_seam (group_bytes pair.0) (row_bytes pair.1 ++ (flat_map slot_bytes (drop (suc i) pairs) ++ zeros))
 
-  -- and its row's
-  pub cut_row : slice_range ((head ++ flat_map slot_bytes pairs) ++ zeros) (26 + 47 * i) (54 + 47 * i) ≡ row_bytes pair.1
-  cut_row =
-      let long = is.row in
-      let before = is.group in
-      let size : (54 + 47 * i) - (26 + 47 * i) ≡ length (row_bytes pair.1) = omega arith in
-      let at : 26 + 47 * i ≡ (7 + 47 * i) + length (group_bytes pair.0) = omega arith in
-      let behind : drop (26 + 47 * i) ((head ++ flat_map slot_bytes pairs) ++ zeros) ≡ row_bytes pair.1 ++ (flat_map slot_bytes (drop (suc i) pairs) ++ zeros) =
-      ap (λ n. drop n ((head ++ flat_map slot_bytes pairs) ++ zeros)) at
-      ∙ sym (drop-drop (length (group_bytes pair.0)) (7 + 47 * i) ((head ++ flat_map slot_bytes pairs) ++ zeros))
-      ∙ ap (drop (length (group_bytes pair.0))) from_slot
-      ∙ drop-append_seam (group_bytes pair.0) (row_bytes pair.1 ++ (flat_map slot_bytes (drop (suc i) pairs) ++ zeros)) in
-      (λ t. take (size t) (behind t)) ∙ take-append_seam (row_bytes pair.1) (flat_map slot_bytes (drop (suc i) pairs) ++ zeros)
+    -- and its row's
+    pub cut_row : slice_range ((head ++ flat_map slot_bytes pairs) ++ zeros) (26 + 47 * i) (54 + 47 * i) ≡ row_bytes pair.1
+    cut_row =
+        let long = is.row in
+        let before = is.group in
+        let size : (54 + 47 * i) - (26 + 47 * i) ≡ length (row_bytes pair.1) = omega arith in
+        let at : 26 + 47 * i ≡ (7 + 47 * i) + length (group_bytes pair.0) = omega arith in
+        let behind : drop (26 + 47 * i) ((head ++ flat_map slot_bytes pairs) ++ zeros)
+        ≡ row_bytes pair.1 ++ (flat_map slot_bytes (drop (suc i) pairs) ++ zeros) =
+        ap (λ n. drop n ((head ++ flat_map slot_bytes pairs) ++ zeros)) at
+        ∙ sym (drop-drop (length (group_bytes pair.0)) (7 + 47 * i) ((head ++ flat_map slot_bytes pairs) ++ zeros))
+        ∙ ap (drop (length (group_bytes pair.0))) from_slot
+        ∙ drop-append_seam (group_bytes pair.0) (row_bytes pair.1 ++ (flat_map slot_bytes (drop (suc i) pairs) ++ zeros)) in
+        (λ t. take (size t) (behind t)) ∙ take-append_seam (row_bytes pair.1) (flat_map slot_bytes (drop (suc i) pairs) ++ zeros)
 
-  -- its first byte is the group's number
-  pub cut_number : slice_index ((head ++ flat_map slot_bytes pairs) ++ zeros) (7 + 47 * i) ≡ pair.0.vid
-  cut_number =
-      let at : 7 + 47 * i ≡ 7 + 47 * i + 0 = omega arith in
-      ap (λ n. get_or ((head ++ flat_map slot_bytes pairs) ++ zeros) n 0) at
-      ∙ sym (get_or-drop (7 + 47 * i) ((head ++ flat_map slot_bytes pairs) ++ zeros) 0 0)
-      ∙ ap (λ l. get_or l 0 0) from_slot
+    -- its first byte is the group's number
+    pub cut_number : slice_index ((head ++ flat_map slot_bytes pairs) ++ zeros) (7 + 47 * i) ≡ pair.0.vid
+    cut_number =
+        let at : 7 + 47 * i ≡ 7 + 47 * i + 0 = omega arith in
+        ap (λ n. get_or ((head ++ flat_map slot_bytes pairs) ++ zeros) n 0) at
+        ∙ sym (get_or-drop (7 + 47 * i) ((head ++ flat_map slot_bytes pairs) ++ zeros) 0 0)
+        ∙ ap (λ l. get_or l 0 0) from_slot
 
 -- what a place past the end is read as
 no_group : Group
 no_group = group_with 0 [] 0 0 0 0 0 0
 
 -- numbers of at most 100,000 cycles are small
-small_request : (now : ℕ) (request : Option (Descriptor × ℕ × ℕ)) → now ≤ 100000 → IfSome request (λ waiting. (waiting.1 < now) × (waiting.2 ≤ now)) → IsSmall request
+small_request : (now : ℕ) (request : Option (Descriptor × ℕ × ℕ)) → now ≤ 100000 → RequestFits now request → IsSmall request
 small_request now None few fits = tt
 small_request now (Some waiting) few fits = (let since = fits.0 in omega arith, let starved = fits.1 in omega arith)
 
@@ -133,9 +136,13 @@ module _ (now : ℕ) (table : TableValue) (rows : List StateRow) (right : IsInRa
     group_at-state =
         let g : Group = (get_or (zip table.groups rows) i (no_group, no_row)).0 in
         let in_range = bounded i (no_group, no_row) h in
-        ap group_from (cut_group (head_bytes now table) (replicate (1887 - length (head_bytes now table ++ slots_bytes table.groups rows)) 0) (zip table.groups rows) refl all_whole i (no_group, no_row)
-        (get_or (zip table.groups rows) i (no_group, no_row)) h refl (whole_at i (no_group, no_row) h))
-        ∙ group_read g in_range.few_members (let top = in_range.ts_high in omega arith) (let top = in_range.tr_high in omega arith) (let top = in_range.tx_high in omega arith)
+        let p : Group × StateRow = get_or (zip table.groups rows) i (no_group, no_row) in
+        let behind : List ℕ = replicate (1887 - length (head_bytes now table ++ slots_bytes table.groups rows)) 0 in
+        let ts : g.ts < 2 ^ 16 = let top = in_range.ts_high in omega arith in
+        let tr : g.tr < 2 ^ 16 = let top = in_range.tr_high in omega arith in
+        let tx : g.tx < 2 ^ 16 = let top = in_range.tx_high in omega arith in
+        ap group_from (cut_group (head_bytes now table) behind (zip table.groups rows) refl all_whole i (no_group, no_row) p h refl (whole_at i (no_group, no_row) h))
+        ∙ group_read g in_range.few_members ts tr tx
         ∙ ap (λ (p : Group × StateRow). p.0) (there i (no_group, no_row) h)
 
     row_at-state : row_at (state_bytes now table rows) i ≡ get_or rows i no_row
@@ -144,8 +151,9 @@ module _ (now : ℕ) (table : TableValue) (rows : List StateRow) (right : IsInRa
         let p : Group × StateRow = get_or (zip table.groups rows) i (no_group, no_row) in
         let fit = fits i (no_group, no_row) h in
         let top = right.cycle in
-        let behind = replicate (1887 - length (head_bytes now table ++ slots_bytes table.groups rows)) 0 in
-        let number = cut_number (head_bytes now table) behind (zip table.groups rows) refl all_whole i (no_group, no_row) p h refl (whole_at i (no_group, no_row) h) in
+        let behind : List ℕ = replicate (1887 - length (head_bytes now table ++ slots_bytes table.groups rows)) 0 in
+        let number =
+        cut_number (head_bytes now table) behind (zip table.groups rows) refl all_whole i (no_group, no_row) p h refl (whole_at i (no_group, no_row) h) in
         let row = cut_row (head_bytes now table) behind (zip table.groups rows) refl all_whole i (no_group, no_row) p h refl (whole_at i (no_group, no_row) h) in
         (λ t. row_from (number t) (row t))
         ∙ ap (λ v. row_from v (row_bytes p.1)) (sym fit.number)
@@ -201,7 +209,8 @@ valid_taken bytes s is =
 -- bytes are those of one state at most
 pub one_state : (bytes : List ℕ) (s t : AgreedState) → IsState bytes s.cycle s.table s.rows.items → IsState bytes t.cycle t.table t.rows.items → s ≡ t
 one_state bytes s t is as_well =
-    let cycle : t.cycle ≡ number_at bytes 0 4 = sym (cycle_from-state t.cycle t.table t.rows.items as_well.in_range) ∙ ap (λ b. number_at b 0 4) (sym as_well.spelled) in
+    let cycle : t.cycle ≡ number_at bytes 0 4 =
+    sym (cycle_from-state t.cycle t.table t.rows.items as_well.in_range) ∙ ap (λ b. number_at b 0 4) (sym as_well.spelled) in
     let table : t.table ≡ table_from bytes = sym (table_from-state t.cycle t.table t.rows.items as_well.in_range) ∙ ap table_from (sym as_well.spelled) in
     let rows : t.rows.items ≡ rows_from bytes = sym (rows_from-state t.cycle t.table t.rows.items as_well.in_range) ∙ ap rows_from (sym as_well.spelled) in
     sym (only_one bytes s t (cycle, table, rows) is)

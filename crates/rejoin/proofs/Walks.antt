@@ -35,25 +35,28 @@ pub length-pairs : (groups : List Group) (rows : List StateRow) → length rows 
 length-pairs groups rows e = let both = length-zip groups rows in omega arith
 
 -- the group and the row of a place, where the groups were seen by another name
-pub pair_at : (seen groups : List Group) (rows : List StateRow) (i : ℕ) (g : Group) → seen ≡ groups → length rows ≡ length groups → i < length seen → g ≡ get_or seen i g
-    → get_or (zip groups rows) i (g, no_row) ≡ (g, get_or rows i no_row)
+pub pair_at : (seen groups : List Group) (rows : List StateRow) (i : ℕ) (g : Group) → seen ≡ groups → length rows ≡ length groups → i < length seen
+    → g ≡ get_or seen i g → get_or (zip groups rows) i (g, no_row) ≡ (g, get_or rows i no_row)
 pair_at seen groups rows i g same e h is =
     let here : i < length groups = let long = ap length same in omega arith in
     get_or-zip groups rows i (g, no_row) here (omega arith)
     ∙ ap (λ x. (x, get_or rows i no_row)) (sym (is ∙ ap (λ l. get_or l i g) same))
 
-module _ (P : Group × StateRow → Type 0) (seen groups : List Group) (rows : List StateRow) (i : ℕ) (g : Group) (same : seen ≡ groups) (e : length rows ≡ length groups) (h : i < length seen) (is : g ≡ get_or seen i g) where
-  there : i < length (zip groups rows)
-  there = let long = ap length same in let pairs = length-pairs groups rows e in omega arith
+module _ (P : Group × StateRow → Type 0) (seen groups : List Group) (rows : List StateRow) (same : seen ≡ groups) (e : length rows ≡ length groups) where
+  module _ (i : ℕ) (g : Group) (h : i < length seen) (is : g ≡ get_or seen i g) where
+    there : i < length (zip groups rows)
+    there = let long = ap length same in let pairs = length-pairs groups rows e in omega arith
 
-  -- what holds of all pairs holds at a place
-  pub holds_at : All P (zip groups rows) → P (g, get_or rows i no_row)
-  holds_at all = subst P (pair_at seen groups rows i g same e h is) (All-get_or P (zip groups rows) i (g, no_row) there all)
+    -- what holds of all pairs holds at a place
+    pub holds_at : All P (zip groups rows) → P (g, get_or rows i no_row)
+    holds_at all = subst P (pair_at seen groups rows i g same e h is) (All-get_or P (zip groups rows) i (g, no_row) there all)
 
-  -- and of one more, where it holds there
-  pub holds_more : All P (take i (zip groups rows)) → P (g, get_or rows i no_row) → All P (take (i + 1) (zip groups rows))
-  holds_more all here = All-more P (zip groups rows) i (g, no_row) there all (subst P (sym (pair_at seen groups rows i g same e h is)) here)
+    -- and of one more, where it holds there
+    pub holds_more : All P (take i (zip groups rows)) → P (g, get_or rows i no_row) → All P (take (i + 1) (zip groups rows))
+    holds_more all here = All-more P (zip groups rows) i (g, no_row) there all (subst P (sym (pair_at seen groups rows i g same e h is)) here)
 
 -- at the end all pairs are taken
-pub all_pairs : (seen groups : List Group) (rows : List StateRow) (i : ℕ) → seen ≡ groups → length rows ≡ length groups → length seen ≤ i → take i (zip groups rows) ≡ zip groups rows
-all_pairs seen groups rows i same e past = take_all i (zip groups rows) (let long = ap length same in let pairs = length-pairs groups rows e in omega arith)
+pub all_pairs : (seen groups : List Group) (rows : List StateRow) (i : ℕ) → seen ≡ groups → length rows ≡ length groups → length seen ≤ i
+    → take i (zip groups rows) ≡ zip groups rows
+all_pairs seen groups rows i same e past =
+    take_all i (zip groups rows) (let long = ap length same in let pairs = length-pairs groups rows e in omega arith)

@@ -45,12 +45,20 @@ head_bytes cycle table = four_bytes cycle ++ (table.n ∷ table.manager ∷ leng
 unfoldable pub state_bytes : ℕ → TableValue → List StateRow → List ℕ
 state_bytes cycle table rows = filled_up 1887 (head_bytes cycle table ++ slots_bytes table.groups rows)
 
+-- a request since an earlier cycle, which did not starve in more cycles than there were
+abbrev pub RequestFits : ℕ → Option (Descriptor × ℕ × ℕ) → Type 0
+RequestFits now request = IfSome request (λ waiting. (waiting.1 < now) × (waiting.2 ≤ now))
+
+-- lags of no more cycles than there were
+abbrev pub LagsFit : ℕ → List ℕ → Type 0
+LagsFit now lags = All (λ lag. lag ≤ now) lags
+
 -- A row of a group at the beginning of a cycle: its request stands since an earlier cycle, and nothing was counted more often than there were cycles.
 pub record RowFits (cycle : ℕ) (pair : Group × StateRow) : Type 0 where
   pub number : pair.1.vid ≡ pair.0.vid
-  pub request : IfSome pair.1.request (λ waiting. (waiting.1 < cycle) × (waiting.2 ≤ cycle))
+  pub request : RequestFits cycle pair.1.request
   pub four : length pair.1.lags ≡ 4
-  pub lags : All (λ lag. lag ≤ cycle) pair.1.lags
+  pub lags : LagsFit cycle pair.1.lags
   pub past : All (λ lag. lag ≡ 0) (drop (length (members_of pair.0)) pair.1.lags)
 
 -- What is a state: a valid table with one row for each group, in order.

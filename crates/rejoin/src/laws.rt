@@ -1,14 +1,14 @@
 //! Laws of states as bytes, for the crates above. Nothing of this runs.
 
-ghost use Rattle.std.specs.Prelude.{◌≡◌, ◌<◌, ◌≤◌, ℕ, List, map, All, IfSome};
+ghost use Rattle.std.specs.Prelude.{◌≡◌, ◌≤◌, ℕ, List, map, All};
 ghost use Rattle.config_table.specs.declared.groups.Group.{Group};
 ghost use Rattle.config_table.specs.declared.decisions.StateRow.{StateRow};
 ghost use Rattle.config_table.specs.Table.{TableValue, IsValid};
 ghost use Rattle.rejoin.specs.declared.AgreedState.{AgreedState};
-ghost use Rattle.rejoin.specs.State.{RowFits, IsInRange, IsState, state_bytes};
+ghost use Rattle.rejoin.specs.State.{RequestFits, LagsFit, RowFits, IsInRange, IsState, state_bytes};
 
-/// A state has one spelling, which is of its length, and bytes spell one state at most: what is read is encoded to
-/// the same bytes, and what was encoded is read back.
+/// A state has one spelling, and bytes spell one state at most: what is read is encoded to the same bytes, and what
+/// was encoded is read back.
 pub fn one_spelling()
     ensures bytes { (xs ys : List ℕ) (now : ℕ) (table : TableValue) (rows : List StateRow) → IsState xs now table rows → IsState ys now table rows → xs ≡ ys }
     ensures state { (xs : List ℕ) (s t : AgreedState) → IsState xs s.cycle s.table s.rows.items → IsState xs t.cycle t.table t.rows.items → s ≡ t }
@@ -17,12 +17,13 @@ pub fn one_spelling()
 
 /// A valid table is a state with rows that are made of its groups, where each of them fits its group.
 pub fn made_of_groups()
-    ensures { (now : ℕ) (table : TableValue) (made : Group → StateRow) → now ≤ 100000 → IsValid table → All (λ g. RowFits now (g, made g)) table.groups → IsInRange now table (map made table.groups) }
+    ensures { (now : ℕ) (table : TableValue) (made : Group → StateRow) → now ≤ 100000 → IsValid table
+        → All (λ g. RowFits now (g, made g)) table.groups → IsInRange now table (map made table.groups) }
 {}
 
 /// The rows of a state have the numbers of its groups, in order, and their numbers of cycles are in their ranges.
 pub fn rows_of_groups()
     ensures numbered { (now : ℕ) (table : TableValue) (rows : List StateRow) → IsInRange now table rows → map (λ row. row.vid) rows ≡ map (λ g. g.vid) table.groups }
-    ensures requests { (now : ℕ) (table : TableValue) (rows : List StateRow) → IsInRange now table rows → All (λ row. IfSome row.request (λ waiting. (waiting.1 < now) × (waiting.2 ≤ now))) rows }
-    ensures lags { (now : ℕ) (table : TableValue) (rows : List StateRow) → IsInRange now table rows → All (λ row. All (λ lag. lag ≤ now) row.lags) rows }
+    ensures requests { (now : ℕ) (table : TableValue) (rows : List StateRow) → IsInRange now table rows → All (λ row. RequestFits now row.request) rows }
+    ensures lags { (now : ℕ) (table : TableValue) (rows : List StateRow) → IsInRange now table rows → All (λ row. LagsFit now row.lags) rows }
 {}

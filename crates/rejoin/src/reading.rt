@@ -7,7 +7,7 @@ ghost use Rattle.std.specs.List.{zip};
 ghost use Rattle.ftpp_base.specs.Lists.{each_below};
 ghost use Rattle.config_table.specs.Table.{IsValid};
 ghost use Rattle.rejoin.specs.declared.AgreedState.{AgreedState};
-ghost use Rattle.rejoin.specs.State.{RowFits, IsInRange, IsState};
+ghost use Rattle.rejoin.specs.State.{RequestFits, RowFits, IsInRange, IsState};
 ghost use Rattle.rejoin.specs.Reading.{number_at, member_from, group_from, request_from, row_from, group_at, row_at, count_from, groups_from, rows_from, table_from};
 
 use crate::AgreedState;
@@ -158,7 +158,7 @@ fn only_state(bytes: &[u8; 1887]) -> Option<AgreedState>
 
 /// Whether a request stands since an earlier cycle, and did not starve in more cycles than there were.
 fn request_fits(cycle: u32, request: &Option<(Descriptor, u32, u32)>) -> bool
-    ensures { IsTrue result ↔ IfSome request.now (λ waiting. (waiting.1 < cycle) × (waiting.2 ≤ cycle)) }
+    ensures { IsTrue result ↔ RequestFits cycle request.now }
 {
     match request {
         None => true,

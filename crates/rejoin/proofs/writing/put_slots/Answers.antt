@@ -6,12 +6,16 @@ use Rattle.rejoin.proofs.writing.put_slots.Goals as goal
 
 pub loop-i-preserved : goal.loop-i-preserved
 loop-i-preserved c =
+    let seen = c.groups-groups.ensures.groups in
+    let long = ap length c.groups-groups.ensures.groups in
+    let pairs = length-pairs c.args.table.now.groups c.args.rows.now c.requires.one_each in
     let pair =
-    pair_at c.groups-groups.result.now c.args.table.now.groups c.args.rows.now c.loop-i.i c.index-groups-i.result c.groups-groups.ensures.groups c.requires.one_each c.loop-i-test.true c.index-groups-i.is in
+    pair_at c.groups-groups.result.now c.args.table.now.groups c.args.rows.now c.loop-i.i c.index-groups-i.result seen
+    c.requires.one_each c.loop-i-test.true c.index-groups-i.is in
     record {
       items =
-          written_more slot_bytes c.args.out.now.items c.loop-i.out.items c.put_slot.new.out.items (zip c.args.table.now.groups c.args.rows.now) c.loop-i.i (c.index-groups-i.result, no_row)
-          (let below = c.loop-i-test.true in let long = ap length c.groups-groups.ensures.groups in let pairs = length-pairs c.args.table.now.groups c.args.rows.now c.requires.one_each in omega arith)
+          written_more slot_bytes c.args.out.now.items c.loop-i.out.items c.put_slot.new.out.items (zip c.args.table.now.groups c.args.rows.now)
+          c.loop-i.i (c.index-groups-i.result, no_row) (let below = c.loop-i-test.true in omega arith)
           c.loop-i.invariant.items (c.put_slot.ensures.items ∙ ap (λ p. c.loop-i.out.items ++ slot_bytes p) (sym pair));
       len = let before = c.loop-i.invariant.len in let after = c.put_slot.ensures.len in omega arith;
     }
@@ -20,4 +24,5 @@ pub returns-clause-items : goal.returns-clause-items
 returns-clause-items c =
     c.loop-i.invariant.items
     ∙ ap (λ l. c.args.out.now.items ++ flat_map slot_bytes l)
-    (all_pairs c.groups-groups.result.now c.args.table.now.groups c.args.rows.now c.loop-i.i c.groups-groups.ensures.groups c.requires.one_each c.loop-i-test.false)
+    (all_pairs c.groups-groups.result.now c.args.table.now.groups c.args.rows.now c.loop-i.i c.groups-groups.ensures.groups
+    c.requires.one_each c.loop-i-test.false)
