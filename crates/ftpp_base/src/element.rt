@@ -57,6 +57,8 @@ impl Ne {
 
 // an entry of a `Row` needs a value to begin with
 impl Default for Ne {
+    ghost is_default = { λ e. e ≡ 0 };
+
     fn default() -> Ne {
         Ne { number: 0 }
     }
@@ -70,6 +72,8 @@ pub struct Proc {
 }
 
 impl Default for Proc {
+    ghost is_default = { λ p. (p.ne ≡ 0) × (p.port ≡ 0) };
+
     fn default() -> Proc {
         Proc { ne: 0, port: 0 }
     }
@@ -92,6 +96,10 @@ pub struct Slot {
 }
 
 impl Default for Slot {
+    ghost use Rattle.ftpp_base.specs.declared.element.Round.{Round};
+
+    ghost is_default = { λ s. (s.cycle ≡ 0) × (s.round ≡ Round.A1) };
+
     fn default() -> Slot {
         Slot {
             cycle: 0,

@@ -41,6 +41,8 @@ fn with_bit(bits: u8, i: u8) -> Set8
 }
 
 impl Default for Set8 {
+    ghost is_default = { λ s. s.bits ≡ 0 };
+
     fn default() -> Set8 {
         Set8 { bits: 0 }
     }
@@ -89,6 +91,8 @@ impl VidSet {
 }
 
 impl Default for VidSet {
+    ghost is_default = { λ s. (vid : ℕ) → has_vid s vid ≡ false };
+
     fn default() -> VidSet {
         VidSet::new()
     }
