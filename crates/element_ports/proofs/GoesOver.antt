@@ -122,14 +122,17 @@ own_by : (same : Bool) (table : TableValue) (me : ℕ) (p : Proc) (rest : List P
 own_by true table me p rest items i port b same here l place new h =
     let at = eqb-true port i same in
     let this : p ≡ proc_at me port = ap (λ ne. proc_at ne p.port) here ∙ ap (λ k. proc_at me k) (sym (at ∙ place)) in
-    inr (
-      put_here (λ x. x.outs) items i port b l at ∙ ap (λ x. x.outs) new ∙ ap (out_limit table) this,
-      put_here (λ x. x.ins) items i port b l at ∙ ap (λ x. x.ins) new ∙ ap (in_limit table) this,
-    )
+    inr record {
+      output = put_here (λ x. x.outs) items i port b l at ∙ ap (λ x. x.outs) new ∙ ap (out_limit table) this;
+      input = put_here (λ x. x.ins) items i port b l at ∙ ap (λ x. x.ins) new ∙ ap (in_limit table) this;
+    }
 own_by false table me p rest items i port b same here l place new h =
     let away = eqb-false port i same in
     still table p (proc_at me port) rest port (seen me items) (seen me (set items i b)) (other_port p (proc_at me port) (λ e. away (e ∙ sym place)))
-    (λ old. (put_elsewhere (λ x. x.outs) items i port b away ∙ old.0, put_elsewhere (λ x. x.ins) items i port b away ∙ old.1)) h
+    (λ old. record {
+      output = put_elsewhere (λ x. x.outs) items i port b away ∙ old.output;
+      input = put_elsewhere (λ x. x.ins) items i port b away ∙ old.input;
+    }) h
 
 pub goes-own : (table : TableValue) (me : ℕ) (p : Proc) (rest : List Proc) (last : List Queues) (items : List Buffers) (i : ℕ) (b : Buffers)
     → p.ne ≡ me → i < length items → i ≡ p.port → b ≡ fresh table p → Goes table me (p ∷ rest) last items → Goes table me rest last (set items i b)

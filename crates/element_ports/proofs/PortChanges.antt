@@ -1,5 +1,5 @@
 -- The ports after the queues of one of them changed.
-use Rattle.std.proofs.Common.{◌≡◌, ℕ, zero, suc, ◌<◌, List, [], ◌∷◌, length, get_or, refl, ap, sym, ◌∙◌, arith, map}
+use Rattle.std.proofs.Common.{◌≡◌, ℕ, zero, suc, ◌<◌, List, [], ◌∷◌, length, get_or, refl, ap, sym, ◌∙◌, arith, map, subst}
 use Rattle.std.proofs.Math.ListN.{set}
 use Rattle.std.proofs.Math.Seq.{map-set_same}
 use Rattle.std.proofs.lemmas.List.{get_or-map}
@@ -76,5 +76,11 @@ pub ins_by_table : (table : TableValue) (me : ℕ) (items : List Buffers) (i : �
     → proc.ne ≡ me → proc.port < 8 → b.ins ≡ in_limit table proc
 ins_by_table table me items i proc ports b limits is l place at here small =
     sym (ins_seen me items i proc.port ports b is l place at)
-    ∙ (limits proc.port small).1
+    ∙ (limits proc.port small).input
     ∙ ap (λ ne. in_limit table (proc_at ne proc.port)) (sym (here ∙ ap (λ (v : PortsValue). v.me) is))
+
+-- with other queues the limits stay
+pub limits_stay : (table : TableValue) (ports other : PortsValue) (queues : List Queues)
+    → HasLimits table ports → other ≡ record ports { queues = queues } → HasLimits table other
+limits_stay table ports other queues limits e =
+    subst (λ (v : PortsValue). HasLimits table v) (sym e) (λ port l. record { output = (limits port l).output; input = (limits port l).input })

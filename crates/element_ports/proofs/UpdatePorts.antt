@@ -88,7 +88,7 @@ follows : (table new : TableValue) (cleared : List Proc) (ports : PortsValue) (p
     → KeepsLimits table cleared (proc_at ports.me port) new
     → (is_listed (proc_at ports.me port) cleared ≡ true) ⊎ HasLimitsAt new ports port
 follows table new cleared ports port had (inl e) = inl e
-follows table new cleared ports port had (inr same) = inr (had.0 ∙ sym same.0, had.1 ∙ sym same.1)
+follows table new cleared ports port had (inr same) = inr record { output = had.output ∙ sym same.0; input = had.input ∙ sym same.1 }
 
 can : (table new : TableValue) (update : Update) (procs : ArrayVec Proc) (ports : PortsValue)
     → IsValid table → HasLimits table ports → IsDone table new update procs → CanGoOver new (ports_to_clear table update) ports

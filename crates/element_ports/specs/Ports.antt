@@ -36,10 +36,10 @@ proc_at me port = record { ne = me; port = port }
 abbrev pub fresh : TableValue → Proc → Buffers
 fresh table proc = record { queues = no_queues; outs = out_limit table proc; ins = in_limit table proc }
 
--- The limits of one port, of its output and of its input, are those of the table.
-abbrev pub HasLimitsAt : TableValue → PortsValue → ℕ → Type 0
-HasLimitsAt table ports port =
-    (slice_index ports.outs port ≡ out_limit table (proc_at ports.me port)) × (slice_index ports.ins port ≡ in_limit table (proc_at ports.me port))
+-- The limits of one port are those of the table.
+pub record HasLimitsAt (table : TableValue) (ports : PortsValue) (port : ℕ) : Type 0 where
+  pub output : slice_index ports.outs port ≡ out_limit table (proc_at ports.me port)
+  pub input : slice_index ports.ins port ≡ in_limit table (proc_at ports.me port)
 
 -- The limits of all ports are those of the table.
 abbrev pub HasLimits : TableValue → PortsValue → Type 0

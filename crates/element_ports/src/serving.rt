@@ -1,7 +1,6 @@
 //! What an exchange or a discard does at the ports of one element.
 
 ghost use Rattle.std.specs.Prelude.{◌≡◌, ◌<◌, option_copied};
-ghost use Rattle.config_table.specs.Table.{TableValue};
 ghost use Rattle.processor_buffers.specs.Queues.{after_pop, head_of};
 ghost use Rattle.data_exchange.specs.Entries.{member_at, own_row, packet_of_head};
 ghost use Rattle.run.specs.Processors.{port_queues};
@@ -68,9 +67,7 @@ impl Ports {
 
     /// Takes the head of the member here that was admitted to an exchange or a discard, if that carries the request.
     pub fn serve(&mut self, table: &Table, decision: &Decision)
-        ensures ports { (kept : Kept) → IsKeptWith table.now self.old kept → self.new ≡ record self.old { queues = own_service kept decision.now } }
-        ensures me { self.new.me ≡ self.old.me }
-        ensures limits { (table : TableValue) → HasLimits table self.old → HasLimits table self.new }
+        ensures { (kept : Kept) → IsKeptWith table.now self.old kept → self.new ≡ record self.old { queues = own_service kept decision.now } }
     {
         match decision {
             Decision::Idle => {}

@@ -119,6 +119,14 @@ fn outputs_hold_as_many_as_the_table_says(rt: HostRuntime) -> Result<(), Fail> {
     Ok(())
 }
 
+/// Takes the head that was served. Its caller goes on with the limits of the table.
+fn serve(ports: &mut Ports, table: &Table, decision: &Decision)
+    requires { HasLimits table.now ports.old }
+    ensures { HasLimits table.now ports.new }
+{
+    ports.serve(table, decision);
+}
+
 #[test]
 fn exchanges_go_by_the_members(rt: HostRuntime) -> Result<(), Fail> {
     let table = four_elements()?;
@@ -142,10 +150,10 @@ fn exchanges_go_by_the_members(rt: HostRuntime) -> Result<(), Fail> {
             None,
             "another request at {number}"
         );
-        ports.serve(&table, &other);
+        serve(&mut ports, &table, &other);
         let row = is_admitted.then_some(packet(65).bytes);
         assert_eq!(rt; ports.row(&table, &decision), row, "row at {number}");
-        ports.serve(&table, &decision);
+        serve(&mut ports, &table, &decision);
         let left = (!is_admitted).then_some(TO_THREE);
         assert_eq!(rt; ports.column().entry(1), shown(left), "head at {number}");
         let proc = Proc {

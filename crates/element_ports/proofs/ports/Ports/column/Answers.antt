@@ -11,4 +11,4 @@ returns c table limits =
     let ports = c.args.self.now in
     fill_by_all (λ port. shown_entry (in_limit table (proc_at ports.me port)) (port_queues ports.queues port))
     c.loop-port.pattern 8 quiet c.loop-port.invariant.long
-    (λ k l. c.loop-port.invariant.shown k (omega arith) ∙ ap (λ (n : ℕ). shown_entry n (port_queues ports.queues k)) (limits k l).1)
+    (λ k l. c.loop-port.invariant.shown k (omega arith) ∙ ap (λ (n : ℕ). shown_entry n (port_queues ports.queues k)) (limits k l).input)

@@ -1,9 +1,9 @@
-use Rattle.std.proofs.Common.{◌∙◌, ap, sym, subst, ℕ, arith}
+use Rattle.std.proofs.Common.{◌∙◌, ap, sym, ℕ, arith}
 use Rattle.config_table.specs.Table.{out_limit}
 use Rattle.processor_buffers.specs.Queues.{Posted, after_post}
 use Rattle.processor_buffers.specs.Buffers.{buffers_after}
-use Rattle.element_ports.specs.Ports.{PortsValue, HasLimits, proc_at}
-use Rattle.element_ports.proofs.PortChanges.{seen-changed, outs_seen}
+use Rattle.element_ports.specs.Ports.{proc_at}
+use Rattle.element_ports.proofs.PortChanges.{seen-changed, outs_seen, limits_stay}
 use Rattle.element_ports.proofs.ports.Ports.post.Goals as goal
 
 pub returns-clause-ports : goal.returns-clause-ports
@@ -16,10 +16,10 @@ returns-clause-ports c table limits =
     let posted : Posted = (c.args.desc, c.args.packet) in
     let buffers = c.index_mut-buffers.result.now in
     let is = c.index_mut-buffers.ensures.value in
-    let limit = sym (outs_seen me items at port old buffers c.self.view_is (omega arith) c.from.ensures is) ∙ (limits port c.requires).0 in
+    let limit = sym (outs_seen me items at port old buffers c.self.view_is (omega arith) c.from.ensures is) ∙ (limits port c.requires).output in
     seen-changed (after_post (out_limit table (proc_at old.me port)) posted) me items at port old buffers c.post.new.self
     c.self.view_is (omega arith) c.from.ensures is
     (c.post.ensures.queues ∙ ap (λ (n : ℕ). buffers_after (after_post n posted) buffers) limit)
 
 pub returns-clause-limits : goal.returns-clause-limits
-returns-clause-limits c table limits = subst (λ (ports : PortsValue). HasLimits table ports) (sym (returns-clause-ports c table limits)) limits
+returns-clause-limits c table limits = limits_stay table c.args.self.now _ _ limits (returns-clause-ports c table limits)

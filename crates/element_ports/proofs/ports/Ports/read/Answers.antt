@@ -1,7 +1,6 @@
-use Rattle.std.proofs.Common.{sym, subst, arith}
+use Rattle.std.proofs.Common.{arith}
 use Rattle.processor_buffers.specs.Queues.{after_read}
-use Rattle.element_ports.specs.Ports.{PortsValue, HasLimits}
-use Rattle.element_ports.proofs.PortChanges.{seen-changed}
+use Rattle.element_ports.proofs.PortChanges.{seen-changed, limits_stay}
 use Rattle.element_ports.proofs.ports.Ports.read.Goals as goal
 
 pub returns-clause-ports : goal.returns-clause-ports
@@ -11,4 +10,4 @@ returns-clause-ports c table =
     c.self.view_is (omega arith) c.from.ensures c.index_mut-buffers.ensures.value c.read.ensures.queues
 
 pub returns-clause-limits : goal.returns-clause-limits
-returns-clause-limits c table limits = subst (λ (ports : PortsValue). HasLimits table ports) (sym (returns-clause-ports c table)) limits
+returns-clause-limits c table limits = limits_stay table c.args.self.now _ _ limits (returns-clause-ports c table)
