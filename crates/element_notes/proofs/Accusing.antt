@@ -32,7 +32,8 @@ none_pass (k ∷ ks) = none_pass ks
 none_accused : (cycle : ℕ) (sort : SyndromeKind) (n : ℕ) → accused_where cycle sort (λ ne. false) (below n) ≡ []
 none_accused cycle sort n = ap (map (λ ne. noted cycle sort ne ne)) (none_pass (below n))
 
-pub absent_entries : (cycle : ℕ) (table : TableValue) (decision : Decision) → accused_where cycle kind.R (is_absent table decision) (below table.n) ≡ absent_ones cycle table decision
+pub absent_entries : (cycle : ℕ) (table : TableValue) (decision : Decision)
+    → accused_where cycle kind.R (is_absent table decision) (below table.n) ≡ absent_ones cycle table decision
 absent_entries cycle table Idle = none_accused cycle kind.R table.n
 absent_entries cycle table (Discard vid desc number admitted waited) = refl
 absent_entries cycle table (Exchange service) = refl
@@ -43,7 +44,8 @@ full_entries cycle table pattern Idle = none_accused cycle kind.O table.n
 full_entries cycle table pattern (Discard vid desc number admitted waited) = none_accused cycle kind.O table.n
 full_entries cycle table pattern (Exchange service) = refl
 
-pub off_entries : (cycle : ℕ) (table : TableValue) (x : Echoes) (decision : Decision) → accused_where cycle kind.V (is_off table x decision) (below table.n) ≡ off_values cycle table x decision
+pub off_entries : (cycle : ℕ) (table : TableValue) (x : Echoes) (decision : Decision)
+    → accused_where cycle kind.V (is_off table x decision) (below table.n) ≡ off_values cycle table x decision
 off_entries cycle table x Idle = none_accused cycle kind.V table.n
 off_entries cycle table x (Discard vid desc number admitted waited) = none_accused cycle kind.V table.n
 off_entries cycle table x (Exchange service) = refl

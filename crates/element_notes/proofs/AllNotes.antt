@@ -28,7 +28,8 @@ use Rattle.element_notes.proofs.OffRows.{filter_range-same}
 
 -- ---- which senders count
 
-filter_but-same : (p q : ℕ → Bool) (a m i n : ℕ) → a + m ≤ n → ((s : ℕ) → s < n → p s ≡ q s) → filter p (remove (range_with_len a m) i) ≡ filter q (remove (range_with_len a m) i)
+filter_but-same : (p q : ℕ → Bool) (a m i n : ℕ) → a + m ≤ n → ((s : ℕ) → s < n → p s ≡ q s)
+    → filter p (remove (range_with_len a m) i) ≡ filter q (remove (range_with_len a m) i)
 filter_but-same p q a zero zero n l same = refl
 filter_but-same p q a zero (suc i) n l same = refl
 filter_but-same p q a (suc m) zero n l same = filter_range-same p q (a + 1) m n (omega arith) (λ s k h. same s k)
@@ -39,12 +40,14 @@ module _ (cycle : ℕ) (sort : SyndromeKind) (x : Echoes) (n : ℕ) (one other :
   pub copies_counts : off_copies cycle sort x n one ≡ off_copies cycle sort x n other
   copies_counts =
       ap (map (λ ne. noted cycle sort ne ne))
-      (filter_but-same (is_off_copy x one) (is_off_copy x other) 0 n x.me n (omega arith) (λ s l. ap (λ b. b && not (same_cell (cell_at x.copies s) (result_for x s))) (same s l)))
+      (filter_but-same (is_off_copy x one) (is_off_copy x other) 0 n x.me n (omega arith)
+      (λ s l. ap (λ b. b && not (same_cell (cell_at x.copies s) (result_for x s))) (same s l)))
 
   by_counts : (relay : ℕ) → off_by cycle sort x n one relay ≡ off_by cycle sort x n other relay
   by_counts relay =
       ap (map (λ s. noted cycle sort relay s))
-      (filter_but-same (is_off_relay x one relay) (is_off_relay x other relay) 0 n relay n (omega arith) (λ s l. ap (λ b. b && not (same_cell (relayed_at x relay s) (result_for x s))) (same s l)))
+      (filter_but-same (is_off_relay x one relay) (is_off_relay x other relay) 0 n relay n (omega arith)
+      (λ s l. ap (λ b. b && not (same_cell (relayed_at x relay s) (result_for x s))) (same s l)))
 
   pub relays_counts : off_relays cycle sort x n one ≡ off_relays cycle sort x n other
   relays_counts = λ t. flat_map (λ relay. by_counts relay t) (others n x.me)
@@ -60,7 +63,8 @@ not_left_out true false rest e = cc
 not_left_out false here rest e = refl
 
 -- a member is not admitted, or its value may differ, and not both
-pub five_members : (cycle : ℕ) (table : TableValue) (x : Echoes) (decision : Decision) → table.n ≤ 5 → length (absent_ones cycle table decision) + length (off_values cycle table x decision) ≤ 5
+pub five_members : (cycle : ℕ) (table : TableValue) (x : Echoes) (decision : Decision) → table.n ≤ 5
+    → length (absent_ones cycle table decision) + length (off_values cycle table x decision) ≤ 5
 five_members cycle table x Idle few = omega arith
 five_members cycle table x (Discard vid desc number admitted waited) few =
     let test = is_left_out table vid admitted in
@@ -83,7 +87,8 @@ added old more new e = ap length e ∙ length-append old more
 
 -- ---- in order
 
-pub in_order : (none a b c d e f g o2 o3 o4 o6 o7 : List Syndrome) → none ≡ [] → o2 ≡ none ++ a ++ b → o3 ≡ o2 ++ c → o4 ≡ o3 ++ d → o6 ≡ o4 ++ e ++ f → o7 ≡ o6 ++ g
+pub in_order : (none a b c d e f g o2 o3 o4 o6 o7 : List Syndrome) → none ≡ [] → o2 ≡ none ++ a ++ b → o3 ≡ o2 ++ c → o4 ≡ o3 ++ d
+    → o6 ≡ o4 ++ e ++ f → o7 ≡ o6 ++ g
     → o7 ≡ a ++ b ++ c ++ d ++ e ++ f ++ g
 in_order none a b c d e f g o2 o3 o4 o6 o7 e0 e2 e3 e4 e6 e7 =
     e7
@@ -94,7 +99,8 @@ in_order none a b c d e f g o2 o3 o4 o6 o7 e0 e2 e3 e4 e6 e7 =
     ∙ ap (λ l. l ++ a ++ b ++ c ++ d ++ e ++ f ++ g) e0
 
 -- and these are what the element notes
-pub noted_parts : (cycle : ℕ) (table : TableValue) (pattern : Pattern) (decision : Decision) (patterns packets : Echoes) (kept : Kept) (m : Made) → HasParts cycle table pattern decision patterns packets kept m
+pub noted_parts : (cycle : ℕ) (table : TableValue) (pattern : Pattern) (decision : Decision) (patterns packets : Echoes) (kept : Kept) (m : Made)
+    → HasParts cycle table pattern decision patterns packets kept m
     → off_copies cycle kind.P1 patterns table.n (λ s. true)
     ++ off_relays cycle kind.P2 patterns table.n (λ s. true)
     ++ absent_ones cycle table decision

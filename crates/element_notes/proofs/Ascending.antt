@@ -20,9 +20,11 @@ one_made f true k = refl
 one_made f false k = refl
 
 -- and so is what is made of it
-pub made_below-more : {A : Type 0} (f : ℕ → A) (p : ℕ → Bool) (k : ℕ) → map f (filter p (below (k + 1))) ≡ map f (filter p (below k)) ++ cond (p k) (f k ∷ []) []
+pub made_below-more : {A : Type 0} (f : ℕ → A) (p : ℕ → Bool) (k : ℕ)
+    → map f (filter p (below (k + 1))) ≡ map f (filter p (below k)) ++ cond (p k) (f k ∷ []) []
 made_below-more f p k =
-    ap (map f) (filter_below-more p k) ∙ map-append f (filter p (below k)) (cond (p k) (k ∷ []) []) ∙ ap (λ l. map f (filter p (below k)) ++ l) (one_made f (p k) k)
+    ap (map f) (filter_below-more p k) ∙ map-append f (filter p (below k)) (cond (p k) (k ∷ []) [])
+    ∙ ap (λ l. map f (filter p (below k)) ++ l) (one_made f (p k) k)
 
 -- what was appended so far, and one entry more
 pub appended_more : {A : Type 0} (f : ℕ → A) (p : ℕ → Bool) (k : ℕ) (start list more : List A) (b : Bool) (x : A)

@@ -33,7 +33,8 @@ placed test s k (inl l) (inl e) = let never : ⊥ = omega arith in absurd never
 placed test s k (inl l) (inr away) =
     (λ i. (lt-ltb s k l i && test s) || (test k && ne_eqb s k away i)) ∙ lower (test s) (test k) ∙ ap (λ b. b && test s) (sym (lt-ltb s (k + 1) (omega arith)))
 placed test s k (inr l) (inl e) =
-    (λ i. (le-ltb s k l i && test s) || (test k && eq-eqb s k e i)) ∙ here true (test k) ∙ ap test (sym e) ∙ ap (λ b. b && test s) (sym (lt-ltb s (k + 1) (omega arith)))
+    (λ i. (le-ltb s k l i && test s) || (test k && eq-eqb s k e i)) ∙ here true (test k) ∙ ap test (sym e)
+    ∙ ap (λ b. b && test s) (sym (lt-ltb s (k + 1) (omega arith)))
 placed test s k (inr l) (inr away) =
     (λ i. (le-ltb s k l i && test s) || (test k && ne_eqb s k away i)) ∙ higher (test k) ∙ ap (λ b. b && test s) (sym (le-ltb s (k + 1) (omega arith)))
 

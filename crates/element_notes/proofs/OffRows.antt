@@ -25,10 +25,12 @@ use Rattle.element_notes.specs.Words.{entry_about, entries_about, is_off_word}
 -- ---- those that pass, of all and of all but one
 
 -- tests that agree on some numbers keep the same of them
-pub filter_range-same : (p q : ℕ → Bool) (a m n : ℕ) → a + m ≤ n → ((s : ℕ) → s < n → a ≤ s → p s ≡ q s) → filter p (range_with_len a m) ≡ filter q (range_with_len a m)
+pub filter_range-same : (p q : ℕ → Bool) (a m n : ℕ) → a + m ≤ n → ((s : ℕ) → s < n → a ≤ s → p s ≡ q s)
+    → filter p (range_with_len a m) ≡ filter q (range_with_len a m)
 filter_range-same p q a zero n l same = refl
 filter_range-same p q a (suc m) n l same =
-    λ t. cond (same a (omega arith) (omega arith) t) (a ∷ filter_range-same p q (a + 1) m n (omega arith) (λ s k h. same s k (omega arith)) t) (filter_range-same p q (a + 1) m n (omega arith) (λ s k h. same s k (omega arith)) t)
+    λ t. cond (same a (omega arith) (omega arith) t) (a ∷ filter_range-same p q (a + 1) m n (omega arith) (λ s k h. same s k (omega arith)) t)
+    (filter_range-same p q (a + 1) m n (omega arith) (λ s k h. same s k (omega arith)) t)
 
 -- a test that leaves one out keeps of all what the other test keeps of all but that one
 filter_but : (p q : ℕ → Bool) (a m i one n : ℕ) → a + m ≤ n → a + i ≡ one → ((s : ℕ) → s < n → p s ≡ (not (s == one) && q s))
@@ -38,10 +40,12 @@ filter_but p q a zero (suc i) one n l e same = refl
 filter_but p q a (suc m) zero one n l e same =
     let out : p a ≡ false = same a (omega arith) ∙ ap (λ b. not b && q a) (eq-eqb a one (omega arith)) in
     ap (λ b. cond b (a ∷ filter p (range_with_len (a + 1) m)) (filter p (range_with_len (a + 1) m))) out
-    ∙ filter_range-same p q (a + 1) m n (omega arith) (λ s k h. same s k ∙ ap (λ b. not b && q s) (ne_eqb s one (λ (z : s ≡ one). let never : ⊥ = omega arith in never)))
+    ∙ filter_range-same p q (a + 1) m n (omega arith)
+    (λ s k h. same s k ∙ ap (λ b. not b && q s) (ne_eqb s one (λ (z : s ≡ one). let never : ⊥ = omega arith in never)))
 filter_but p q a (suc m) (suc i) one n l e same =
     let kept : p a ≡ q a = same a (omega arith) ∙ ap (λ b. not b && q a) (ne_eqb a one (λ (z : a ≡ one). let never : ⊥ = omega arith in never)) in
-    λ t. cond (kept t) (a ∷ filter_but p q (a + 1) m i one n (omega arith) (omega arith) same t) (filter_but p q (a + 1) m i one n (omega arith) (omega arith) same t)
+    λ t. cond (kept t) (a ∷ filter_but p q (a + 1) m i one n (omega arith) (omega arith) same t)
+    (filter_but p q (a + 1) m i one n (omega arith) (omega arith) same t)
 
 pub filter_others : (p q : ℕ → Bool) (one n : ℕ) → ((s : ℕ) → s < n → p s ≡ (not (s == one) && q s)) → filter p (below n) ≡ filter q (others n one)
 filter_others p q one n same = filter_but p q 0 n one one n (omega arith) (omega arith) same
@@ -61,13 +65,15 @@ module _ (x : Echoes) (counts off : Set8) where
   pub copies_off : (heading : Heading) (n me : ℕ) → x.me ≡ me → ((s : ℕ) → s < n → has off s ≡ is_off_word x counts me s)
       → entries_about heading Itself n off ≡ off_copies heading.cycle heading.kind x n (has counts)
   copies_off heading n me e are =
-      ap (map (entry_about heading Itself)) (filter_others (has off) (is_off_copy x (has counts)) x.me n (λ s l. are s l ∙ (λ t. not (s == sym e t) && own_word me s e t)))
+      ap (map (entry_about heading Itself))
+      (filter_others (has off) (is_off_copy x (has counts)) x.me n (λ s l. are s l ∙ (λ t. not (s == sym e t) && own_word me s e t)))
 
   -- the entries on a relay
   pub relay_off : (heading : Heading) (n of : ℕ) → of ≢ x.me → ((s : ℕ) → s < n → has off s ≡ is_off_word x counts of s)
       → entries_about heading (Relay of) n off ≡ off_by heading.cycle heading.kind x n (has counts) of
   relay_off heading n of away are =
-      ap (map (entry_about heading (Relay of))) (filter_others (has off) (is_off_relay x (has counts) of) of n (λ s l. are s l ∙ ap (λ b. not (s == of) && b) (other_word of s away)))
+      ap (map (entry_about heading (Relay of)))
+      (filter_others (has off) (is_off_relay x (has counts) of) of n (λ s l. are s l ∙ ap (λ b. not (s == of) && b) (other_word of s away)))
 
 -- ---- counts
 
@@ -105,7 +111,8 @@ copies_few cycle kind x n counts few there =
     let most = others_few n n x.me (omega arith) few there in
     omega arith
 
-pub by_few : (cycle : ℕ) (kind : SyndromeKind) (x : Echoes) (n : ℕ) (counts : ℕ → Bool) (relay : ℕ) → n ≤ 5 → relay < n → length (off_by cycle kind x n counts relay) ≤ 4
+pub by_few : (cycle : ℕ) (kind : SyndromeKind) (x : Echoes) (n : ℕ) (counts : ℕ → Bool) (relay : ℕ) → n ≤ 5 → relay < n
+    → length (off_by cycle kind x n counts relay) ≤ 4
 by_few cycle kind x n counts relay few there =
     let made = made_few (λ s. noted cycle kind relay s) (is_off_relay x counts relay) (others n relay) in
     let most = others_few n n relay (omega arith) few there in

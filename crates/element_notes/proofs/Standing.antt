@@ -69,12 +69,14 @@ stands_all test masked members i set l all k low =
 
 -- ---- of a group of the table
 
-pub of_group : (test : Proc → Bool) (table : TableValue) (vid : ℕ) (g : Group) (masked : Set8) (members : List Proc) (k : ℕ) → Some g ≡ group_named table vid → masked ≡ g.masked → members ≡ g.members.items
+pub of_group : (test : Proc → Bool) (table : TableValue) (vid : ℕ) (g : Group) (masked : Set8) (members : List Proc) (k : ℕ)
+    → Some g ≡ group_named table vid → masked ≡ g.masked → members ≡ g.members.items
     → listed test masked 0 members k ≡ stands_at (filter test (senders table vid)) k
 of_group test table vid g masked members k named same are =
     (λ t. listed test (same t) 0 (are t) k) ∙ ap (λ o. stands_at (filter test (unwrap_or (option_map live_members o) [])) k) named
 
-pub of_none : (test : Proc → Bool) (table : TableValue) (vid : ℕ) (k : ℕ) → None ≡ group_named table vid → has no_elements k ≡ stands_at (filter test (senders table vid)) k
+pub of_none : (test : Proc → Bool) (table : TableValue) (vid : ℕ) (k : ℕ) → None ≡ group_named table vid
+    → has no_elements k ≡ stands_at (filter test (senders table vid)) k
 of_none test table vid k named = has_none k ∙ ap (λ o. stands_at (filter test (unwrap_or (option_map live_members o) [])) k) named
 
 -- ---- those that are not admitted
@@ -94,7 +96,8 @@ kept_by true p rest k = refl
 kept_by false p rest k = refl
 
 -- members at an element that is not in the set
-pub left_out : (admitted : Set8) (k : ℕ) (ps : List Proc) → stands_at (filter (λ proc. not (has admitted proc.ne)) ps) k ≡ (stands_at ps k && not (has admitted k))
+pub left_out : (admitted : Set8) (k : ℕ) (ps : List Proc)
+    → stands_at (filter (λ proc. not (has admitted proc.ne)) ps) k ≡ (stands_at ps k && not (has admitted k))
 left_out admitted k [] = refl
 left_out admitted k (p ∷ ps) =
     kept_by (not (has admitted p.ne)) p (filter (λ proc. not (has admitted proc.ne)) ps) k

@@ -13,7 +13,8 @@ abbrev pub AreResults : ℕ → Echoes → (ℕ → Bool) → List Cell → Type
 AreResults n x counts results = (s : ℕ) → s < n → counts s ≡ true → cell_at results s ≡ result_for x s
 
 -- What it kept, and what it made of the cycle, have these parts.
-pub record HasParts (cycle : ℕ) (table : TableValue) (pattern : Pattern) (decision : Decision) (patterns packets : Echoes) (kept : Kept) (m : Made) : Type 0 where
+pub record HasParts (cycle : ℕ) (table : TableValue) (pattern : Pattern) (decision : Decision) (patterns packets : Echoes) (kept : Kept)
+    (m : Made) : Type 0 where
   pub kept_cycle : kept.cycle ≡ cycle
   pub kept_table : kept.table ≡ table
   pub made_pattern : m.pattern ≡ pattern

@@ -1,7 +1,7 @@
 //! What one element notes of the others in a cycle.
 #![tactic(auto)]
 
-ghost use Rattle.std.specs.Prelude.{◌≡◌, ◌<◌, ◌≤◌, ℕ, true, length, option_copied};
+ghost use Rattle.std.specs.Prelude.{◌≡◌, ◌<◌, ◌≤◌, true, length, option_copied};
 ghost use Rattle.run.specs.Element.{Kept, Made, own_entry};
 ghost use Rattle.run.specs.Noted.{noted_by};
 ghost use Rattle.run.specs.Sent.{is_relayed};
@@ -69,7 +69,9 @@ pub fn note<const N: usize>(seen: &Seen<N>, out: &mut Row<Syndrome, 64>)
     requires pattern_results { AreResults N seen.now.patterns.now (λ s. true) seen.now.pattern_results.now }
     requires packet_results { AreResults N seen.now.packets.now (is_relayed seen.now.decision.now) seen.now.packet_results.now }
     requires entry { option_copied seen.now.entry ≡ own_entry seen.now.table.now seen.now.decision.now seen.now.packets.now }
-    ensures noted { (kept : Kept) (m : Made) → HasParts seen.now.cycle seen.now.table.now seen.now.pattern.now seen.now.decision.now seen.now.patterns.now seen.now.packets.now kept m → out.new.items ≡ noted_by kept m }
+    ensures noted { (kept : Kept) (m : Made)
+        → HasParts seen.now.cycle seen.now.table.now seen.now.pattern.now seen.now.decision.now seen.now.patterns.now seen.now.packets.now kept m
+        → out.new.items ≡ noted_by kept m }
     ensures few { length out.new.items ≤ 52 }
 {
     let Seen {
@@ -93,3 +95,6 @@ pub fn note<const N: usize>(seen: &Seen<N>, out: &mut Row<Syndrome, 64>)
     note_exchange(packets, packet_results, &sent, me, &PACKETS, cycle, out);
     note_values(table, decision, packets, packet_results, entry, cycle, out);
 }
+
+#[cfg(test)]
+mod tests;

@@ -1,6 +1,6 @@
 //! Values of admitted members that differ from the result of an exchange.
 
-ghost use Rattle.std.specs.Prelude.{◌≡◌, ℕ, ◌+◌, ◌<◌, ◌≤◌, ◌&&◌, ◌++◌, length, nat_le};
+ghost use Rattle.std.specs.Prelude.{◌≡◌, ℕ, ◌+◌, ◌<◌, ◌≤◌, ◌++◌, length};
 ghost use Rattle.std.specs.Option.{option_copied};
 ghost use Rattle.ftpp_base.specs.Sets.{has};
 ghost use Rattle.run.specs.Element.{own_entry};

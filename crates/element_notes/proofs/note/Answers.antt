@@ -1,5 +1,4 @@
 use Rattle.std.proofs.Common.{◌≡◌, ◌<◌, ◌∙◌, ◌++◌, ℕ, true, length, arith, refl, ap, sym}
-use Rattle.ftpp_base.specs.Sets.{has}
 use Rattle.syndrome_log.specs.declared.SyndromeKind.TheVariants as kind
 use Rattle.run.specs.Noted.{off_copies, off_relays, absent_ones, full_ones, off_values}
 use Rattle.run.specs.Sent.{is_relayed}

@@ -7,7 +7,8 @@ use Rattle.element_notes.proofs.copies.note_copies.Goals as goal
 pub returns-clause-items : goal.returns-clause-items
 returns-clause-items g c =
     c.note_each.ensures.items
-    ∙ ap (λ l. c.args.out.now.items ++ l) (copies_off c.args.x.now c.args.counts.now c.off_words-off.result c.args.heading.now g.row.N c.args.me c.requires.whole.own c.off_words-off.ensures)
+    ∙ ap (λ l. c.args.out.now.items ++ l)
+    (copies_off c.args.x.now c.args.counts.now c.off_words-off.result c.args.heading.now g.row.N c.args.me c.requires.whole.own c.off_words-off.ensures)
 
 pub returns-clause-few : goal.returns-clause-few
 returns-clause-few g c =
@@ -15,4 +16,5 @@ returns-clause-few g c =
     let kind = c.args.heading.now.kind in
     let counts = has c.args.counts.now in
     longer c.args.out.now.items (off_copies cycle kind c.args.x.now g.row.N counts) _ 4 (returns-clause-items g c)
-    (copies_few cycle kind c.args.x.now g.row.N counts c.requires.whole.few (let own = c.requires.whole.own in let among = c.requires.whole.among in omega arith))
+    (copies_few cycle kind c.args.x.now g.row.N counts c.requires.whole.few
+    (let own = c.requires.whole.own in let among = c.requires.whole.among in omega arith))

@@ -8,7 +8,8 @@ pub returns-clause-items : goal.returns-clause-items
 returns-clause-items g c =
     let away : c.args.relay ≢ c.args.x.now.me = λ e. c.requires.other (e ∙ c.requires.whole.own) in
     c.note_each.ensures.items
-    ∙ ap (λ l. c.args.out.now.items ++ l) (relay_off c.args.x.now c.args.counts.now c.off_words-off.result c.args.heading.now g.row.N c.args.relay away c.off_words-off.ensures)
+    ∙ ap (λ l. c.args.out.now.items ++ l)
+    (relay_off c.args.x.now c.args.counts.now c.off_words-off.result c.args.heading.now g.row.N c.args.relay away c.off_words-off.ensures)
 
 pub returns-clause-few : goal.returns-clause-few
 returns-clause-few g c =

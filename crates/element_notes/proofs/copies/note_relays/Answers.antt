@@ -17,7 +17,8 @@ loop-k-preserved g c =
           let away : k ≢ c.args.me = another k c.element-relay.result c.args.me c.ne.result c.element-relay.ensures c.ne.ensures w.if-ne.true in
           let one_more = others_longer k c.args.me away in
           rw w.out-is (record {
-            items = relays_more by c.args.me k c.args.out.now.items c.loop-k.out.items _ _ before.items w.note_relay.ensures.items (ap by c.element-relay.ensures) away;
+            items = relays_more by c.args.me k c.args.out.now.items c.loop-k.out.items _ _ before.items w.note_relay.ensures.items
+                (ap by c.element-relay.ensures) away;
             few = omega (arith, before.few, w.note_relay.ensures.few, one_more);
             room = omega (arith, before.room, w.note_relay.ensures.few);
           })

@@ -8,7 +8,8 @@ pub loop-k-preserved : goal.loop-k-preserved
 loop-k-preserved c =
     let about = entry_about c.args.heading.now c.args.accused.now in
     let before = c.loop-k.invariant in record {
-      items = appended_more about (has c.args.nes.now) c.loop-k.k c.args.out.now.items c.loop-k.out.items _ _ _ before.items c.push_if.ensures.items c.has.ensures
+      items = appended_more about (has c.args.nes.now) c.loop-k.k c.args.out.now.items c.loop-k.out.items _ _ _ before.items c.push_if.ensures.items
+          c.has.ensures
           (c.entry_about-entry.ensures ∙ ap about c.element.ensures);
       few = omega (arith, before.few, c.push_if.ensures.few);
     }

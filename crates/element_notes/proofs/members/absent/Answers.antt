@@ -14,4 +14,5 @@ pub returns-in-Exchange : goal.returns-in-Exchange
 returns-in-Exchange g c ne l =
     let table = c.args.table.now in
     let service = c.in-Exchange.service in
-    c.lacking-in-Exchange.ensures ne l ∙ left_out service.admitted ne (senders table service.vid) ∙ ap (λ decision. is_absent table decision ne) (sym c.in-Exchange.is)
+    c.lacking-in-Exchange.ensures ne l ∙ left_out service.admitted ne (senders table service.vid)
+    ∙ ap (λ decision. is_absent table decision ne) (sym c.in-Exchange.is)

@@ -15,6 +15,7 @@ returns-clause-items g c =
     let few : c.n.result ≤ 8 = (let size = c.n.ensures.size in omega arith) in
     c.note_each.ensures.items
     ∙ ap (λ l. c.args.out.now.items ++ l)
-    (accused_same heading c.n.result c.full-nes.result (is_full table c.args.pattern.now decision) (λ s l. c.full-nes.ensures s (let low : s < 8 = omega arith in low))
+    (accused_same heading c.n.result c.full-nes.result (is_full table c.args.pattern.now decision)
+    (λ s l. c.full-nes.ensures s (let low : s < 8 = omega arith in low))
     ∙ ap (λ n. accused_where c.args.cycle kind.O (is_full table c.args.pattern.now decision) (below n)) c.n.ensures.n
     ∙ full_entries c.args.cycle table c.args.pattern.now decision)
