@@ -1,9 +1,9 @@
 -- The steps of a cycle, one after another.
-use Rattle.std.proofs.Common.{◌≡◌, ℕ, ◌<◌, ◌≤◌, cond, List, length, refl, ap, sym, ◌∙◌, arith}
+use Rattle.std.proofs.Common.{◌≡◌, ℕ, ◌<◌, ◌≤◌, cond, List, [], length, refl, ap, sym, ◌∙◌, arith}
 use Rattle.std.proofs.lemmas.Bool.{eq-eqb}
-use Rattle.std.proofs.lemmas.List.{length-replicate, set-get_or}
+use Rattle.std.proofs.lemmas.List.{length-replicate, set-get_or, get_or-replicate}
 use Rattle.std.proofs.lemmas.List.FromFn.{length-map-range_with_len}
-use Rattle.std.specs.Prelude.{None, slice_set}
+use Rattle.std.specs.Prelude.{Option, Some, None, replicate, slice_index_or, slice_set}
 use Rattle.ftpp_base.specs.Lists.{each_below, cell_at}
 use Rattle.ftpp_base.specs.declared.element.Round.{Round}
 use Rattle.ftpp_base.specs.declared.element.Round.TheVariants.{A1, A2, B1, B2}
@@ -12,10 +12,15 @@ use Rattle.frame_format.specs.Frames.{reads_as}
 use Rattle.two_round.specs.Echoes.{Echoes}
 use Rattle.two_round.proofs.Agreement.{at_place}
 use Rattle.run.proofs.PhaseLaws.{kept_size}
-use Rattle.run.specs.Element.{Kept, Heard, own_packet}
+use Rattle.table_update.specs.declared.Update.{Update}
+use Rattle.table_update.specs.declared.Applied.{Applied}
+use Rattle.table_update.specs.declared.Applied.TheVariants as applied_variant
+use Rattle.table_update.specs.Updates.{applied}
+use Rattle.run.specs.Cycle.{update_in}
+use Rattle.run.specs.Element.{Kept, Heard, Made, own_packet, own_update, made, kept_by, kept_with, kept_after}
 use Rattle.run.specs.Noted.{own_pattern, where_relayed}
 use Rattle.run.specs.Phases.{no_cells}
-use Rattle.element_core.specs.ElementValue.{own_cells, cells_taken, ended_with, decision_now}
+use Rattle.element_core.specs.ElementValue.{own_cells, cells_taken, heard_with, ended_with, decision_now}
 use Rattle.element_core.specs.Steps.{OwnCellsBegin, OwnCellsStay, OwnCellsHold, CycleOfSteps}
 
 -- ---- a cycle of steps
@@ -58,13 +63,21 @@ not_yet count rounds few many = omega arith
 count_none : (n : ℕ) → length (no_cells n) ≡ n
 count_none n = length-replicate n None
 
+-- nothing stands in a place of those that were not heard
+relay_none : (n me : ℕ) → me < n → slice_index_or (replicate n (no_cells n)) me [] ≡ no_cells n
+relay_none n me there = get_or-replicate n me (no_cells n) [] there
+
 -- an element begins with no cells of others
 pub own_cells_begin : OwnCellsBegin
-own_cells_begin kept = record {
+own_cells_begin kept there = record {
   patterns = λ l. absurd (not_yet 1 0 (omega arith) l);
   packets = λ l. absurd (not_yet 3 0 (omega arith) l);
+  pattern_relay = relay_none kept.table.n kept.me there;
+  packet_relay = relay_none kept.table.n kept.me there;
   pattern_count = count_none kept.table.n;
   packet_count = count_none kept.table.n;
+  pattern_relays = length-replicate kept.table.n (no_cells kept.table.n);
+  packet_relays = length-replicate kept.table.n (no_cells kept.table.n);
 }
 
 -- what stands in its own place is its own cell
@@ -78,33 +91,78 @@ own_place kept heard round frames there =
     at_place kept.table.n (λ s. cell_at (cells_taken kept heard round frames s) 0) kept.me None there
     ∙ ap (λ cells. cell_at cells 0) (own_taken kept heard round frames)
 
+-- nor do its own echoes
+pub own_relay : (kept : Kept) (heard : Heard) (round : Round) (frames : ℕ → List ℕ) → kept.me < kept.table.n
+    → slice_index_or (each_below kept.table.n (cells_taken kept heard round frames)) kept.me [] ≡ own_cells kept heard round
+own_relay kept heard round frames there = at_place kept.table.n (cells_taken kept heard round frames) kept.me [] there ∙ own_taken kept heard round frames
+
+-- an applied update, or none, leaves its number
+me_by : (a : Applied) (update : Update) (kept : Kept) → (kept_by a update kept).me ≡ kept.me
+me_by (applied_variant.Done procs) update kept = refl
+me_by (applied_variant.Refused error) update kept = refl
+me_by applied_variant.Absent update kept = refl
+
+me_with : (o : Option Update) (kept : Kept) → (kept_with o kept).me ≡ kept.me
+me_with None kept = refl
+me_with (Some update) kept = me_by (applied kept.table update) update kept
+
+pub kept_me : (kept : Kept) (m : Made) → (kept_after kept m).me ≡ kept.me
+unfolding kept_after
+kept_me kept m = me_with (update_in (own_update kept.table m.decision m.packets)) _
+
+-- nothing was heard yet of the next cycle
+fresh_relay : (n me next_n next_me : ℕ) → next_n ≡ n → next_me ≡ me → me < n → slice_index_or (replicate n (no_cells n)) next_me [] ≡ no_cells next_n
+fresh_relay n me next_n next_me same_n same_me there = ap (λ i. slice_index_or (replicate n (no_cells n)) i []) same_me ∙ relay_none n me there ∙ ap no_cells (sym same_n)
+
 -- they stand there after each step
 pub own_cells_stay : OwnCellsStay
 unfolding ended_with
 own_cells_stay e A1 frames due there has = record {
   patterns = λ l. own_place e.kept e.heard A1 frames there;
   packets = λ l. absurd (not_yet 3 1 (omega arith) l);
+  pattern_relay = has.pattern_relay;
+  packet_relay = has.packet_relay;
   pattern_count = length-map-range_with_len (λ s. cell_at (cells_taken e.kept e.heard A1 frames s) 0) 0 e.kept.table.n;
   packet_count = has.packet_count;
+  pattern_relays = has.pattern_relays;
+  packet_relays = has.packet_relays;
 }
 own_cells_stay e A2 frames due there has = record {
   patterns = λ l. has.patterns (rw due (omega arith));
   packets = λ l. absurd (not_yet 3 2 (omega arith) l);
+  pattern_relay = own_relay e.kept e.heard A2 frames there;
+  packet_relay = has.packet_relay;
   pattern_count = has.pattern_count;
   packet_count = has.packet_count;
+  pattern_relays = length-map-range_with_len (cells_taken e.kept e.heard A2 frames) 0 e.kept.table.n;
+  packet_relays = has.packet_relays;
 }
 own_cells_stay e B1 frames due there has = record {
   patterns = λ l. has.patterns (rw due (omega arith));
   packets = λ l. own_place e.kept e.heard B1 frames there;
+  pattern_relay = has.pattern_relay;
+  packet_relay = has.packet_relay;
   pattern_count = has.pattern_count;
   packet_count = length-map-range_with_len (λ s. cell_at (cells_taken e.kept e.heard B1 frames s) 0) 0 e.kept.table.n;
+  pattern_relays = has.pattern_relays;
+  packet_relays = has.packet_relays;
 }
-own_cells_stay e B2 frames due there has = record {
-  patterns = λ l. absurd (not_yet 1 0 (omega arith) l);
-  packets = λ l. absurd (not_yet 3 0 (omega arith) l);
-  pattern_count = count_none e.kept.table.n ∙ sym (kept_size e.kept _);
-  packet_count = count_none e.kept.table.n ∙ sym (kept_size e.kept _);
-}
+own_cells_stay e B2 frames due there has =
+    let n = e.kept.table.n in
+    let m = made e.kept (heard_with e B2 frames) in
+    let size = kept_size e.kept m in
+    let cells = length-replicate n (no_cells n) ∙ sym size in
+    let relay = fresh_relay n e.kept.me _ _ size (kept_me e.kept m) there in
+    record {
+      patterns = λ l. absurd (not_yet 1 0 (omega arith) l);
+      packets = λ l. absurd (not_yet 3 0 (omega arith) l);
+      pattern_relay = relay;
+      packet_relay = relay;
+      pattern_count = count_none n ∙ sym size;
+      packet_count = count_none n ∙ sym size;
+      pattern_relays = cells;
+      packet_relays = cells;
+    }
 
 -- ---- what it holds
 

@@ -1,15 +1,17 @@
 -- An element as a plain value, and what each of its calls makes of it.
-use Rattle.std.specs.Prelude.{ℕ, ◌==◌, List, [], ◌∷◌, ◌++◌, Option, Some, None, if◌then◌else◌}
+use Rattle.std.specs.Prelude.{ℕ, ◌==◌, List, [], ◌∷◌, ◌++◌, slice_index_or, Option, Some, None, if◌then◌else◌}
 use Rattle.ftpp_base.specs.declared.element.Proc.{Proc}
 use Rattle.ftpp_base.specs.declared.element.Round.{Round}
+use Rattle.ftpp_base.specs.declared.element.Slot.{Slot}
 use Rattle.ftpp_base.specs.declared.element.Round.TheVariants.{A1, A2, B1, B2}
 use Rattle.packet_format.specs.declared.Packet.{Packet}
 use Rattle.packet_format.specs.declared.Act.{Act}
 use Rattle.bit_vote.specs.Vote.{Cell}
+use Rattle.two_round.specs.Echoes.{Echoes}
 use Rattle.config_table.specs.declared.decisions.Decision.{Decision}
 use Rattle.config_table.specs.Table.{TableValue}
 use Rattle.flag_vote.specs.Flags.{Pattern, voted_flags}
-use Rattle.frame_format.specs.Frames.{frame_bytes, reads_as}
+use Rattle.frame_format.specs.Frames.{frame_bytes, reads_as, first_cell}
 use Rattle.scoreboard.specs.Board.{Scoreboard, empty_scoreboard}
 use Rattle.scoreboard.specs.Choice.{scoreboard_after}
 use Rattle.processor_buffers.specs.declared.Handed.{Handed}
@@ -87,12 +89,20 @@ own_cells kept heard A2 = no_cells kept.table.n
 own_cells kept heard B1 = own_packet kept (decided_by kept heard.patterns heard.relayed_patterns) ∷ []
 own_cells kept heard B2 = no_cells kept.table.n
 
--- the cells that it takes of each sender: of another what its bytes read as, whatever they are
+-- the cells that one of n elements takes of each sender: of another what its bytes read as, whatever they are
+abbrev pub taken_of : ℕ → Slot → ℕ → List Cell → (ℕ → List ℕ) → ℕ → List Cell
+taken_of n slot me own frames sender = if sender == me then own else reads_as n slot sender (frames sender)
+
+-- the one cell that it takes of each sender in a first round
+abbrev pub copy_taken : ℕ → Slot → ℕ → Cell → (ℕ → List ℕ) → ℕ → Cell
+copy_taken n slot me own frames sender = if sender == me then own else first_cell (reads_as n slot sender (frames sender))
+
 abbrev pub cells_taken : Kept → Heard → Round → (ℕ → List ℕ) → ℕ → List Cell
-cells_taken kept heard round frames sender =
-    if sender == kept.me
-    then own_cells kept heard round
-    else reads_as kept.table.n (record { cycle = kept.cycle; round = round }) sender (frames sender)
+cells_taken kept heard round = taken_of kept.table.n (record { cycle = kept.cycle; round = round }) kept.me (own_cells kept heard round)
+
+-- the frames of some rows of bytes, by sender
+abbrev pub frames_in : List (List ℕ) → ℕ → List ℕ
+frames_in rows sender = slice_index_or rows sender []
 
 -- what it heard with the frames of one round more
 abbrev pub heard_with : ElementValue → Round → (ℕ → List ℕ) → Heard
@@ -151,3 +161,10 @@ pattern_now e = settled e.kept.table.n (echoes_of e.kept.me (own_pattern e.kept)
 -- the scoreboard after that decision
 abbrev pub scoreboard_now : ElementValue → Scoreboard
 scoreboard_now e = scoreboard_after e.kept.table e.kept.cycle (voted_flags e.kept.table (pattern_now e)) e.kept.scoreboard
+
+-- what it holds of the exchanges of patterns and of packets
+abbrev pub patterns_now : ElementValue → Echoes
+patterns_now e = record { me = e.kept.me; copies = e.heard.patterns; relayed = e.heard.relayed_patterns }
+
+abbrev pub packets_now : ElementValue → Echoes
+packets_now e = record { me = e.kept.me; copies = e.heard.packets; relayed = e.heard.relayed_packets }

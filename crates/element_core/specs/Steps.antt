@@ -1,26 +1,32 @@
 -- What holds of one element step by step, whatever frames come.
-use Rattle.std.specs.Prelude.{◌≡◌, ℕ, ◌<◌, ◌≤◌, List, length}
+use Rattle.std.specs.Prelude.{◌≡◌, ℕ, ◌<◌, ◌≤◌, List, [], length, slice_index_or}
 use Rattle.ftpp_base.specs.Lists.{each_below, cell_at}
 use Rattle.ftpp_base.specs.declared.element.Round.{Round}
 use Rattle.ftpp_base.specs.declared.element.Round.TheVariants.{A1, A2, B1, B2}
 use Rattle.run.specs.Element.{Kept, echoes_of, own_packet}
 use Rattle.run.specs.Noted.{own_pattern, where_relayed, cells_made}
+use Rattle.run.specs.Phases.{no_cells}
 use Rattle.run.specs.Together.{Carried, heard_of}
 use Rattle.element_core.specs.declared.Due.TheVariants.{Absorb}
 use Rattle.element_core.specs.ElementValue.{ElementValue, begins_with, after_emit, after_absorb, cells_taken, ended_with, rounds_heard, decision_now}
 
 -- ---- its own places
 
--- Once a first round was heard, its own cell stands in its own place, and each list has a cell for each element.
+-- Once a first round was heard, its own cell stands in its own place; it relays nothing to itself; and each list has a
+-- place for each element.
 pub record HasOwnCells (e : ElementValue) : Type 0 where
   pub patterns : 1 ≤ rounds_heard e.due → cell_at e.heard.patterns e.kept.me ≡ own_pattern e.kept
   pub packets : 3 ≤ rounds_heard e.due → cell_at e.heard.packets e.kept.me ≡ own_packet e.kept (decision_now e)
+  pub pattern_relay : slice_index_or e.heard.relayed_patterns e.kept.me [] ≡ no_cells e.kept.table.n
+  pub packet_relay : slice_index_or e.heard.relayed_packets e.kept.me [] ≡ no_cells e.kept.table.n
   pub pattern_count : length e.heard.patterns ≡ e.kept.table.n
   pub packet_count : length e.heard.packets ≡ e.kept.table.n
+  pub pattern_relays : length e.heard.relayed_patterns ≡ e.kept.table.n
+  pub packet_relays : length e.heard.relayed_packets ≡ e.kept.table.n
 
 -- So it is when an element begins, and after each step, whatever frames come.
 abbrev pub OwnCellsBegin : Type 0
-OwnCellsBegin = (kept : Kept) → HasOwnCells (begins_with kept)
+OwnCellsBegin = (kept : Kept) → kept.me < kept.table.n → HasOwnCells (begins_with kept)
 
 abbrev pub OwnCellsStay : Type 0
 OwnCellsStay = (e : ElementValue) (round : Round) (frames : ℕ → List ℕ)

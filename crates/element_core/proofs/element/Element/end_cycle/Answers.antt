@@ -1,0 +1,168 @@
+use Rattle.std.proofs.Common.{◌≡◌, ◌<◌, sym, ap, ◌∙◌, subst, arith, inl, inr}
+use Rattle.std.specs.Prelude.{◌++◌, option_copied, option_map}
+use Rattle.two_round.specs.Echoes.{Echoes, no_echoes}
+use Rattle.config_table.specs.declared.decisions.Decision.{Decision}
+use Rattle.config_table.specs.Table.{IsValid}
+use Rattle.syndrome_log.specs.Log.{last_kept}
+use Rattle.element_notes.specs.AtHand.{AreResults}
+use Rattle.run.specs.Sent.{is_relayed}
+use Rattle.run.specs.Element.{Kept, own_entry, own_update, own_service, own_handed, made, kept_after}
+use Rattle.run.specs.Noted.{noted_by, decided_by}
+use Rattle.run.proofs.PhaseLaws.{kept_size}
+use Rattle.element_core.specs.ElementValue.{ElementValue, packets_now, decision_now, ended_with}
+use Rattle.element_core.specs.Midst.{element_with}
+use Rattle.element_core.specs.Told.{told_of}
+use Rattle.element_core.proofs.StepLaws.{kept_me}
+use Rattle.element_core.proofs.Holding.{few_by, holds_begun}
+use Rattle.element_core.proofs.Results.{results_are, decision_fits_now, IsAtHand, served_by, kept_ends, told_ends, ended_value}
+use Rattle.element_core.proofs.element.Element.end_cycle.Goals as goal
+use Rattle.element_core.proofs.element.Element.end_cycle.Given.{Over}
+
+-- ---- what the calls need
+
+-- the results at hand are those of the senders that are relayed
+are_relayed : (g : Over) (c : goal.After-results-1 g) → AreResults g.row.N c.self.inside.packets (is_relayed c.self.inside.midst.decision) c.results_of-results.result
+are_relayed g c =
+    results_are g.row.N c.self.inside.packets (is_relayed c.self.inside.midst.decision) c.relayed.result c.results_of-results.result
+    (few_by g.row.N c.self.invariant.0.size) c.results_of-results.ensures.results c.relayed.ensures
+
+pub entry_of-packet-requires : goal.entry_of-packet-requires
+entry_of-packet-requires g c =
+    let s = c.self.inside in
+    let h = c.self.invariant.0 in
+    let e = element_with s.kept s.patterns s.packets s.due (option_map (told_of {n = g.row.N}) s.last) s.log in
+    let due = ap (λ (v : ElementValue). v.due) c.self.view_is ∙ c.requires in
+    let few = few_by g.row.N h.size in
+    let valid = subst IsValid c.table.ensures.table c.table.ensures.valid in (
+      grind (arith, few),
+      (
+        grind (arith, few),
+        (
+          few,
+          (
+            ap (λ t. t.n) c.table.ensures.table ∙ h.elements,
+            (decision_fits_now g.row.N e s.midst h due valid, are_relayed g c),
+          ),
+        ),
+      ),
+    )
+
+pub update_of-asked-requires : goal.update_of-asked-requires
+update_of-asked-requires g c =
+    let s = c.self.inside in
+    let h = c.self.invariant.0 in
+    let e = element_with s.kept s.patterns s.packets s.due (option_map (told_of {n = g.row.N}) s.last) s.log in
+    let due = ap (λ (v : ElementValue). v.due) c.self.view_is ∙ c.requires in
+    let few = few_by g.row.N h.size in
+    let valid = subst IsValid c.table.ensures.table c.table.ensures.valid in (
+      grind (arith, few),
+      (
+        grind (arith, few),
+        (
+          few,
+          (
+            ap (λ t. t.n) c.table-2.ensures.table ∙ h.elements,
+            (
+              decision_fits_now g.row.N e s.midst h due valid,
+              results_are g.row.N s.packets (is_relayed s.midst.decision) c.relayed.result c.results_of-results.result few c.results_of-results.ensures.results c.relayed.ensures,
+            ),
+          ),
+        ),
+      ),
+    )
+
+pub noted-syndromes-requires : goal.noted-syndromes-requires
+noted-syndromes-requires g c =
+    let s = c.self.inside in
+    let h = c.self.invariant.0 in
+    let due = ap (λ (v : ElementValue). v.due) c.self.view_is ∙ c.requires in
+    let few = few_by g.row.N h.size in
+    let decision = (h.agreed (rw due (omega arith))).decision in
+    let packets : s.packets ≡ record { me = s.kept.me; copies = s.packets.copies; relayed = s.packets.relayed } =
+    λ i. record { me = c.self.invariant.2 i; copies = s.packets.copies; relayed = s.packets.relayed } in
+    let are = results_are g.row.N s.packets (is_relayed s.midst.decision) c.relayed.result c.results_of-results.result few c.results_of-results.ensures.results c.relayed.ensures in
+    let results = subst (λ (x : Echoes). AreResults g.row.N x (is_relayed (decided_by s.kept s.patterns.copies s.patterns.relayed)) c.results_of-results.result) packets
+    (subst (λ (d : Decision). AreResults g.row.N s.packets (is_relayed d) c.results_of-results.result) decision are) in
+    let entry = c.as_ref.ensures.value ∙ c.entry_of-packet.ensures ∙ (λ i. own_entry (c.table.ensures.table i) (decision i) (packets i)) in (
+      elim h.size [ inl four ↦ rw four (omega arith) | inr five ↦ rw five (omega arith) ],
+      (
+        grind (arith, few),
+        (
+          c.requires,
+          (
+            subst (λ (v : ElementValue). AreResults g.row.N (packets_now v) (is_relayed (decision_now v)) c.results_of-results.result) c.self.view_is results,
+            subst (λ (v : ElementValue). option_copied c.as_ref.result ≡ own_entry v.kept.table (decision_now v) (packets_now v)) c.self.view_is entry,
+          ),
+        ),
+      ),
+    )
+
+pub serve-handed-requires-clause-earlier : goal.serve-handed-requires-clause-earlier
+serve-handed-requires-clause-earlier g c =
+    let due = ap (λ (v : ElementValue). v.due) c.self.view_is ∙ c.requires in
+    (c.self.invariant.0.agreed (rw due (omega arith))).earlier
+
+-- ---- what is made of the cycle
+
+-- the element as the cycle ends
+abbrev ending : (g : Over) → goal.After-self-4-1 g → ElementValue
+ending g c =
+    let s = c.self.inside in
+    element_with s.kept s.patterns s.packets s.due (option_map (told_of {n = g.row.N}) s.last) s.log
+
+-- what it has at hand
+at_hand : (g : Over) (c : goal.After-self-4-1 g) → IsAtHand (ending g c) c.self.inside.midst.decision c.entry_of-packet.result c.update_of-asked.result
+at_hand g c =
+    let s = c.self.inside in
+    let due = ap (λ (v : ElementValue). v.due) c.self.view_is ∙ c.requires in
+    let decision = (c.self.invariant.0.agreed (rw due (omega arith))).decision in
+    let packets : s.packets ≡ packets_now (ending g c) = λ i. record { me = c.self.invariant.2 i; copies = s.packets.copies; relayed = s.packets.relayed } in
+    record {
+      decided = decision;
+      entered = c.entry_of-packet.ensures ∙ (λ i. own_entry (c.table.ensures.table i) (decision i) (packets i));
+      asks = c.update_of-asked.ensures ∙ (λ i. own_update (c.table-2.ensures.table i) (decision i) (packets i));
+    }
+
+-- what it keeps after the decision was served
+serves : (g : Over) (c : goal.After-self-4-1 g) → c.serve-handed.new.self ≡ served_by (ending g c) c.self.inside.midst.decision c.entry_of-packet.result c.self.inside.midst.after
+serves g c = c.serve-handed.ensures.kept ∙ (λ i. served_by (ending g c) c.self.inside.midst.decision (c.as_ref-2.ensures.value i) c.self.inside.midst.after)
+
+-- and after the cycle
+keeps : (g : Over) (c : goal.After-self-4-1 g) → c.update-update.new.self ≡ kept_after (ending g c).kept (made (ending g c).kept (ending g c).heard)
+keeps g c =
+    let s = c.self.inside in
+    let due = ap (λ (v : ElementValue). v.due) c.self.view_is ∙ c.requires in
+    kept_ends (ending g c) s.midst.decision c.entry_of-packet.result c.update_of-asked.result s.midst.after c.serve-handed.new.self c.update-update.new.self
+    c.self.invariant.0.cells due (at_hand g c) (c.self.invariant.0.agreed (rw due (omega arith))).after (serves g c) c.update-update.ensures.kept
+
+pub invariant_of-self : goal.invariant_of-self
+invariant_of-self g c =
+    let s = c.self.inside in
+    let h = c.self.invariant.0 in
+    let m = made (ending g c).kept (ending g c).heard in
+    let me : c.update-update.new.self.me ≡ s.kept.me = ap (λ (k : Kept). k.me) (keeps g c) ∙ kept_me s.kept m in
+    let patterns = c.restart.ensures ∙ ap (no_echoes g.row.N) (c.self.invariant.1 ∙ sym me) in
+    let packets = c.restart-2.ensures ∙ ap (no_echoes g.row.N) (c.self.invariant.2 ∙ sym me) in (
+      holds_begun g.row.N c.update-update.new.self c.restart.new.self c.restart-2.new.self _ _ _ h.size
+          (ap (λ (k : Kept). k.table.n) (keeps g c) ∙ kept_size s.kept m ∙ h.elements)
+          (subst (λ k. k < g.row.N) (sym me) h.below) patterns packets,
+      ap (λ (x : Echoes). x.me) patterns,
+      ap (λ (x : Echoes). x.me) packets,
+    )
+
+pub returns : goal.returns
+returns g c =
+    let s = c.self.inside in
+    let h = c.self.invariant.0 in
+    let e = ending g c in
+    let due = ap (λ (v : ElementValue). v.due) c.self.view_is ∙ c.requires in
+    let agreed = h.agreed (rw due (omega arith)) in
+    let notes = c.noted-syndromes.ensures ∙ sym (ap (λ (v : ElementValue). noted_by v.kept (made v.kept v.heard)) c.self.view_is) in
+    let handed = c.serve-handed.ensures.handed ∙ (λ i. own_handed s.kept s.midst.decision (c.as_ref-2.ensures.value i) (own_service s.kept s.midst.decision)) in
+    let told = told_ends e c.cycle-cycle.result s.midst.pattern s.midst.decision c.entry_of-packet.result c.serve-handed.result c.update_of-asked.result c.update-update.result
+    c.serve-handed.new.self.table c.noted-syndromes.result.items h.cells due (at_hand g c) c.cycle-cycle.ensures.cycle agreed.pattern handed
+    (ap (λ (k : Kept). k.table) (serves g c)) c.update-update.ensures.outcome notes in
+    let log = c.extend_from_slice.ensures ∙ (λ i. last_kept (s.log ++ (c.as_slice.ensures.value ∙ notes) i)) in
+    ended_value g.row.N e c.update-update.new.self c.restart.new.self c.restart-2.new.self s.kept.me _ c.extend_from_slice.new.self h.elements (keeps g c)
+    (c.restart.ensures ∙ ap (no_echoes g.row.N) c.self.invariant.1) (c.restart-2.ensures ∙ ap (no_echoes g.row.N) c.self.invariant.2) told log
+    ∙ ap (λ (v : ElementValue). ended_with v v.heard) c.self.view_is

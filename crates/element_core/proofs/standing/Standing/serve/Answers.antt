@@ -1,0 +1,27 @@
+use Rattle.std.proofs.Common.{◌≡◌, ◌<◌, ◌+◌, refl, sym, subst}
+use Rattle.scoreboard.specs.Times.{AreLinesOf, AreBefore}
+use Rattle.run.specs.Element.{Kept}
+use Rattle.element_core.specs.Standing.{kept_at}
+use Rattle.element_core.proofs.Standings.{stands_with, stands_next}
+use Rattle.element_core.proofs.standing.Standing.serve.Goals as goal
+
+pub deliver-handed-requires : goal.deliver-handed-requires
+deliver-handed-requires c =
+    let kept = kept_at c.self.inside.cycle c.self.inside.table c.self.inside.scoreboard c.self.inside.ports in
+    (stands_with c.self.inside.cycle c.self.inside.table c.self.inside.scoreboard c.self.inside.ports c.serve.new.self _ c.self.invariant
+    (c.serve.ensures kept (record { of_me = refl; of_table = refl; of_ports = refl }))).1
+
+pub invariant_of-self : goal.invariant_of-self
+invariant_of-self c =
+    let cycle = c.self.inside.cycle in
+    let table = c.self.inside.table in
+    let board = c.self.inside.scoreboard in
+    let kept = kept_at cycle table board c.self.inside.ports in
+    let served = stands_with cycle table board c.self.inside.ports c.serve.new.self _ c.self.invariant (c.serve.ensures kept (record { of_me = refl; of_table = refl; of_ports = refl })) in
+    let handed = stands_with cycle table board c.serve.new.self c.deliver-handed.new.self _ served
+    (c.deliver-handed.ensures.ports (kept_at cycle table board c.serve.new.self) refl refl refl) in
+    let is : c.swap.new.x ≡ c.args.after.now = c.swap.ensures.x_after in
+    stands_next cycle table board c.swap.new.x c.deliver-handed.new.self handed
+    (subst (λ (k : Kept). k.cycle < 100000) (sym c.self.view_is) c.requires.cycle)
+    (subst (AreLinesOf table) (sym is) (subst (λ (k : Kept). AreLinesOf k.table c.args.after.now) (sym c.self.view_is) c.requires.lines))
+    (subst (AreBefore (cycle + 1)) (sym is) (subst (λ (k : Kept). AreBefore (k.cycle + 1) c.args.after.now) (sym c.self.view_is) c.requires.earlier))
