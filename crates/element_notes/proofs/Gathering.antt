@@ -39,10 +39,10 @@ placed test s k (inr l) (inr away) =
     (λ i. (le-ltb s k l i && test s) || (test k && ne_eqb s k away i)) ∙ higher (test k) ∙ ap (λ b. b && test s) (sym (le-ltb s (k + 1) (omega arith)))
 
 -- with k itself, if it passes
-pub gathers_more : (test : ℕ → Bool) (k : ℕ) (set more : Set8) (b : Bool) → Gathers test k set → b ≡ test k
+pub gathers_more : (test : ℕ → Bool) (k j : ℕ) (set more : Set8) (b : Bool) → Gathers test k set → b ≡ test j → j ≡ k
     → ((s : ℕ) → s < 8 → has more s ≡ (has set s || (b && s == k))) → Gathers test (k + 1) more
-gathers_more test k set more b before is now s l =
-    now s l ∙ (λ i. before s l i || (is i && s == k)) ∙ placed test s k (cases_lt s k) (cases_eq s k)
+gathers_more test k j set more b before is at now s l =
+    now s l ∙ (λ i. before s l i || ((is ∙ ap test at) i && s == k)) ∙ placed test s k (cases_lt s k) (cases_eq s k)
 
 -- below n they are all that pass
 pub gathers_all : (test : ℕ → Bool) (k n : ℕ) (set : Set8) → Gathers test k set → n ≤ k → n ≤ 5 → (s : ℕ) → s < n → has set s ≡ test s

@@ -148,11 +148,16 @@ pub others_longer : (k one : ℕ) → k ≢ one → length (others (k + 1) one) 
 others_longer k one away = ap length (others_next k one away) ∙ length-append (others k one) (k ∷ [])
 
 -- the entries on the relays so far, and on one more
-pub relays_more : (f : ℕ → List Syndrome) (one k : ℕ) (start list more added : List Syndrome) → list ≡ start ++ flat_map f (others k one) → more ≡ list ++ added
-    → added ≡ f k → k ≢ one → more ≡ start ++ flat_map f (others (k + 1) one)
-relays_more f one k start list more added before now is away =
+pub relays_more : (f : ℕ → List Syndrome) (one k j : ℕ) (start list more : List Syndrome) → list ≡ start ++ flat_map f (others k one)
+    → more ≡ list ++ f j → j ≡ k → k ≢ one → more ≡ start ++ flat_map f (others (k + 1) one)
+relays_more f one k j start list more before now at away =
     now
-    ∙ (λ t. before t ++ (is ∙ sym (append-nil (f k))) t)
+    ∙ (λ t. before t ++ (ap f at ∙ sym (append-nil (f k))) t)
     ∙ append_assoc start (flat_map f (others k one)) (flat_map f (k ∷ []))
     ∙ ap (λ l. start ++ l) (sym (flat_map-append f (others k one) (k ∷ [])))
     ∙ ap (λ l. start ++ flat_map f l) (sym (others_next k one away))
+
+-- the same where the next is left out
+pub relays_same : (f : ℕ → List Syndrome) (one k : ℕ) (start list : List Syndrome) → list ≡ start ++ flat_map f (others k one) → k ≡ one
+    → list ≡ start ++ flat_map f (others (k + 1) one)
+relays_same f one k start list before same = before ∙ ap (λ l. start ++ flat_map f l) (sym (others_skip k one same))

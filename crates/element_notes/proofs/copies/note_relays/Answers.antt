@@ -1,9 +1,8 @@
-use Rattle.std.proofs.Common.{◌≡◌, ◌≢◌, ◌+◌, ◌∙◌, ◌++◌, arith, ap, length, sym}
-use Rattle.std.specs.List.{flat_map}
+use Rattle.std.proofs.Common.{◌≡◌, ◌≢◌, ◌+◌, arith, ap, length}
 use Rattle.ftpp_base.specs.Lists.{others}
 use Rattle.ftpp_base.specs.Sets.{has}
 use Rattle.run.specs.Noted.{off_by}
-use Rattle.element_notes.proofs.OffRows.{others_few, others_longer, others_skip, relays_more, another, itself}
+use Rattle.element_notes.proofs.OffRows.{others_few, others_longer, others_skip, relays_more, relays_same, another, itself}
 use Rattle.element_notes.proofs.copies.note_relays.Goals as goal
 use Rattle.element_notes.proofs.copies.note_relays.Goals.{then-ne, else-ne}
 
@@ -17,8 +16,8 @@ loop-k-preserved g c =
           let away : k ≢ c.args.me = another k c.element-relay.result c.args.me c.ne.result c.element-relay.ensures c.ne.ensures w.if-ne.true in
           let one_more = others_longer k c.args.me away in
           rw w.out-is (record {
-            items = relays_more by c.args.me k c.args.out.now.items c.loop-k.out.items _ _ before.items w.note_relay.ensures.items
-                (ap by c.element-relay.ensures) away;
+            items = relays_more by c.args.me k c.element-relay.result c.args.out.now.items c.loop-k.out.items _ before.items
+                w.note_relay.ensures.items c.element-relay.ensures away;
             few = omega (arith, before.few, w.note_relay.ensures.few, one_more);
             room = omega (arith, before.room, w.note_relay.ensures.few);
           })
@@ -26,7 +25,7 @@ loop-k-preserved g c =
           let same : k ≡ c.args.me = itself k c.element-relay.result c.args.me c.ne.result c.element-relay.ensures c.ne.ensures w.if-ne.false in
           let skip = others_skip k c.args.me same in
           rw w.out-is (record {
-            items = before.items ∙ ap (λ l. c.args.out.now.items ++ flat_map by l) (sym skip);
+            items = relays_same by c.args.me k c.args.out.now.items c.loop-k.out.items before.items same;
             few = let count : length (others (k + 1) c.args.me) ≡ length (others k c.args.me) = ap length skip in omega (arith, before.few, count);
             room = omega (arith, before.room);
           })

@@ -1,4 +1,3 @@
-use Rattle.std.proofs.Common.{◌∙◌, ap}
 use Rattle.element_notes.specs.Words.{is_off_word}
 use Rattle.element_notes.proofs.Gathering.{gathers_none, gathers_more, gathers_all}
 use Rattle.element_notes.proofs.copies.off_words.Goals as goal
@@ -9,8 +8,8 @@ loop-k-init g c = gathers_none (is_off_word c.args.x.now c.args.counts.now c.arg
 pub loop-k-preserved : goal.loop-k-preserved
 loop-k-preserved g c =
     let test = is_off_word c.args.x.now c.args.counts.now c.args.of in
-    gathers_more test c.loop-k.k c.loop-k.off _ c.is_off_word-is_off.result c.loop-k.invariant
-    (c.is_off_word-is_off.ensures ∙ ap test c.element-sender.ensures) c.put_if-off.ensures
+    gathers_more test c.loop-k.k c.element-sender.result c.loop-k.off _ c.is_off_word-is_off.result c.loop-k.invariant c.is_off_word-is_off.ensures c.element-sender.ensures
+    c.put_if-off.ensures
 
 pub returns : goal.returns
 returns g c =
