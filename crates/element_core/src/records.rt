@@ -48,6 +48,13 @@ impl<const N: usize> CycleRecord<N> {
 
 // an entry of a `Row` needs a value to begin with
 impl<const N: usize> Default for CycleRecord<N> {
+    ghost use Rattle.std.specs.Prelude.{◌≡◌, [], None, replicate};
+    ghost use Rattle.local_pattern.specs.Pattern.{quiet_column};
+    ghost use Rattle.config_table.specs.declared.decisions.Decision.TheVariants.{Idle};
+    ghost use Rattle.element_core.specs.Told.{told_of};
+
+    ghost is_default = { λ r. told_of r ≡ record { cycle = 0; pattern = replicate N quiet_column; decision = Idle; packet = None; handed = None; update = None; syndromes = [] } };
+
     fn default() -> CycleRecord<N> {
         CycleRecord {
             cycle: 0,
