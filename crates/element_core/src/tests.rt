@@ -7,7 +7,7 @@ use cases::{CASES, Case, Done, ROUNDS, UPDATE};
 use config_table::{Decision, Kind};
 use frame_format::FrameBuf;
 use ftpp_base::{Ne, Proc, Row, Set8};
-use local_pattern::SystemPattern;
+use local_pattern::{LocalPattern, SystemPattern};
 use packet_format::Delivered;
 use processor_buffers::{Handed, PostFull};
 use std::test::*;
@@ -17,23 +17,35 @@ use syndrome_log::Syndrome;
 #[derive(Debug, PartialEq, Eq, Drop)]
 struct Told {
     cycle: u32,
-    shown: [u8; 4],
+    shown: [u16; 4],
     done: Done,
     entry: Option<[u8; 3]>,
     handed: Option<(Proc, Handed)>,
     update: Option<Outcome3>,
     notes: Row<Syndrome, 64>,
+    /// How many entries its log has.
+    logged: usize,
 }
 
-/// The first byte of each column.
-fn shown(pattern: &SystemPattern<4>) -> [u8; 4] {
-    let mut first = [0; 4];
-    for k in 0..4 {
-        if let Some(ne) = Ne::new(k as u8, 4) {
-            first[k] = pattern.column(ne).encode()[0];
+/// The flags of the first four ports of a column, a hexadecimal digit each.
+fn first_flags(column: &LocalPattern) -> u16 {
+    let mut flags = 0;
+    for (place, byte) in column.encode().iter().enumerate() {
+        if place < 16 && place % 4 == 0 {
+            flags = (flags << 4) | u16::from(*byte);
         }
     }
-    first
+    flags
+}
+
+fn shown(pattern: &SystemPattern<4>) -> [u16; 4] {
+    let mut shown = [0; 4];
+    for k in 0..4 {
+        if let Some(ne) = Ne::new(k as u8, 4) {
+            shown[k] = first_flags(pattern.column(ne));
+        }
+    }
+    shown
 }
 
 fn done(decision: &Decision) -> Done {
@@ -56,10 +68,11 @@ fn done(decision: &Decision) -> Done {
     }
 }
 
-fn tells(record: &CycleRecord<4>) -> Told {
+fn tells(element: &Element<4>) -> Option<Told> {
+    let record = element.last()?;
     let mut notes = Row::new();
     let _ = notes.try_extend_from_slice(record.syndromes.as_slice());
-    Told {
+    Some(Told {
         cycle: record.cycle,
         shown: shown(&record.pattern),
         done: done(&record.decision),
@@ -67,7 +80,8 @@ fn tells(record: &CycleRecord<4>) -> Told {
         handed: record.handed,
         update: record.update,
         notes,
-    }
+        logged: element.syndromes().len(),
+    })
 }
 
 /// What an element notes in the last cycle of a case.
@@ -94,6 +108,8 @@ fn wanted(case: &Case, me: Ne) -> Option<Told> {
         ne: me.byte(),
         port,
     };
+    let notes = wanted_notes(case, me)?;
+    let logged = case.earlier.checked_add(notes.len())?;
     Some(Told {
         cycle: case.cycles.checked_sub(1)?,
         shown: case.shown,
@@ -101,7 +117,8 @@ fn wanted(case: &Case, me: Ne) -> Option<Told> {
         entry: *case.entries.get(me.index())?,
         handed: is_stored.then_some((proc, Handed::Stored)),
         update: case.update,
-        notes: wanted_notes(case, me)?,
+        notes,
+        logged,
     })
 }
 
@@ -112,9 +129,9 @@ fn cycles_end_by_the_rules(rt: HostRuntime) -> Result<(), Fail> {
         for seat in &seats {
             let me = seat.element.me();
             if me.byte() != case.faulty {
-                let record = seat.element.last().ok_or("no record")?;
+                let told = tells(&seat.element).ok_or("no record")?;
                 let wanted = wanted(case, me).ok_or("wanted")?;
-                assert_eq!(rt; tells(record), wanted, "{} at {}", case.name, me.byte());
+                assert_eq!(rt; told, wanted, "{} at {}", case.name, me.byte());
             }
         }
     }
