@@ -55,9 +55,7 @@ impl<const N: usize> Element<N> {
         self.packets.restart();
         self.due = Due::Emit(Round::A1);
     }
-}
 
-impl<const N: usize> Element<N> {
     /// What it notes of the others at the end of the cycle.
     fn noted(&self, results: &Cells<N, 64>, entry: Option<&Packet>) -> Row<Syndrome, 64>
         requires due { self.now.due ≡ Due.Absorb Round.B2 }
