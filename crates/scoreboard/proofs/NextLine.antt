@@ -1,7 +1,7 @@
 -- The line of a group after a decision and after an update.
 use Rattle.std.proofs.Common.{◌≡◌, ℕ, Bool, true, false, cond, ap, sym, ◌∙◌, refl, Option, Some, None, option_map, unwrap_or}
 use Rattle.std.specs.Prelude.{◌==◌}
-use Rattle.std.proofs.lemmas.Bool.{eqb-true, ne_eqb, eqb-false}
+use Rattle.std.proofs.lemmas.Bool.{eqb-true, eq-eqb, ne_eqb, eqb-false}
 use Rattle.ftpp_base.proofs.Items.{find-map}
 use Rattle.config_table.specs.declared.groups.Group.{Group}
 use Rattle.config_table.specs.declared.decisions.StateRow.{StateRow}
@@ -42,3 +42,12 @@ after_update-other table v board g named wrong =
     (find-map (is_line_of g.vid) (is_named g.vid) (updated_line v board) table.groups (λ h. ap (λ k. k == g.vid) (updated_vid v board h (h.vid == v) refl)))
     ∙ ap (λ (o : Option Group). unwrap_or (option_map (updated_line v board) o) (blank_line g.vid)) named
     ∙ ap (λ (b : Bool). cond b (blank_line v) (line_of board g.vid)) (ne_eqb g.vid v wrong)
+
+-- and blanks the line of its own
+pub after_update-own : (table : TableValue) (v : ℕ) (board : Scoreboard) (g : Group) → group_named table g.vid ≡ Some g → g.vid ≡ v
+    → line_of (after_update table v board) g.vid ≡ blank_line v
+after_update-own table v board g named own =
+    ap (λ (o : Option StateRow). unwrap_or o (blank_line g.vid))
+    (find-map (is_line_of g.vid) (is_named g.vid) (updated_line v board) table.groups (λ h. ap (λ k. k == g.vid) (updated_vid v board h (h.vid == v) refl)))
+    ∙ ap (λ (o : Option Group). unwrap_or (option_map (updated_line v board) o) (blank_line g.vid)) named
+    ∙ ap (λ (b : Bool). cond b (blank_line v) (line_of board g.vid)) (eq-eqb g.vid v own)

@@ -1,7 +1,8 @@
 -- When a scoreboard's numbers are those of earlier cycles, and which groups it has lines of.
-use Rattle.std.specs.Prelude.{◌≡◌, ◌≢◌, ℕ, ◌<◌, ◌≤◌, true, map, slice_index, Some, is_some}
+use Rattle.std.specs.Prelude.{◌≡◌, ◌≢◌, ℕ, ◌<◌, ◌≤◌, true, map, length, slice_index, Some, is_some}
 use Rattle.config_table.specs.declared.groups.Group.{Group}
 use Rattle.config_table.specs.declared.decisions.StateRow.{StateRow}
+use Rattle.config_table.specs.Groups.{members_of}
 use Rattle.config_table.specs.Table.{TableValue, group_named}
 use Rattle.scoreboard.specs.Board.{Scoreboard, Waiting, line_of}
 
@@ -14,6 +15,19 @@ pub record IsBefore (now : ℕ) (line : StateRow) : Type 0 where
 -- the line of each group is one before a cycle
 abbrev pub AreBefore : ℕ → Scoreboard → Type 0
 AreBefore now board = (vid : ℕ) → IsBefore now (line_of board vid)
+
+-- A line fits its group: it has four lags, and those past the size of the group are 0.
+pub record FitsGroup (g : Group) (line : StateRow) : Type 0 where
+  pub four : length line.lags ≡ 4
+  pub past : (index : ℕ) → length (members_of g) ≤ index → slice_index line.lags index ≡ 0
+
+-- so it is for each group of a table: only members lag
+abbrev pub OnlyMembersLag : TableValue → Scoreboard → Type 0
+OnlyMembersLag table board = (g : Group) → group_named table g.vid ≡ Some g → FitsGroup g (line_of board g.vid)
+
+-- so it is for each group but one
+abbrev pub OnlyOthersLag : TableValue → ℕ → Scoreboard → Type 0
+OnlyOthersLag table one board = (g : Group) → group_named table g.vid ≡ Some g → g.vid ≢ one → FitsGroup g (line_of board g.vid)
 
 -- whether a group has a request
 abbrev pub HasRequest : Scoreboard → ℕ → Type 0

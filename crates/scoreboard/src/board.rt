@@ -7,7 +7,7 @@ ghost use Rattle.config_table.specs.Table.{IsValid, group_named};
 ghost use Rattle.scoreboard.specs.Board.{empty_scoreboard, line_of, marked, without_request, after_update, request_of, starved_of, lag_of};
 ghost use Rattle.scoreboard.specs.Choice.{decision_of, after_decision, scoreboard_decision, scoreboard_after};
 ghost use Rattle.scoreboard.specs.Steps.{sinces_in, line_but, lines_but};
-ghost use Rattle.scoreboard.specs.Times.{AreBefore, AreOthersHeldBy, AreLinesOf, lines_for};
+ghost use Rattle.scoreboard.specs.Times.{AreBefore, AreOthersHeldBy, AreLinesOf, OnlyMembersLag, OnlyOthersLag, lines_for};
 
 use crate::choice::choosable;
 use crate::decision::{decided, taken};
@@ -46,6 +46,7 @@ impl Scoreboard {
         ensures empty { result ≡ empty_scoreboard table.now }
         ensures lines { AreLinesOf table.now result }
         ensures earlier { AreBefore 0 result }
+        ensures members { OnlyMembersLag table.now result }
     {
         Scoreboard {
             lines: lines_in(table, &[], None),
@@ -61,6 +62,7 @@ impl Scoreboard {
         ensures after { self.new ≡ scoreboard_after table.now now flags.now.items self.old }
         ensures lines { AreLinesOf table.now self.new }
         ensures earlier { AreBefore (now + 1) self.new }
+        ensures members { OnlyMembersLag table.now self.new }
     {
         let mut after = Scoreboard::blank();
         let decision = self.step_into(table, now, flags, &mut after);
@@ -82,6 +84,7 @@ impl Scoreboard {
         ensures after { after.new ≡ scoreboard_after table.now now flags.now.items self.now }
         ensures lines { AreLinesOf table.now after.new }
         ensures earlier { AreBefore (now + 1) after.new }
+        ensures members { OnlyMembersLag table.now after.new }
     {
         self.mark_into(table, now, flags.as_slice(), after);
         let decision = after.decide(table, now, flags.as_slice());
@@ -144,6 +147,7 @@ impl Scoreboard {
         ensures after { self.new ≡ after_update table.now vid self.old }
         ensures lines { AreLinesOf table.now self.new }
         ensures earlier { (now : ℕ) → AreBefore now self.old → AreBefore now self.new }
+        ensures members { OnlyOthersLag table.now vid self.old → OnlyMembersLag table.now self.new }
     {
         let lines = lines_in(table, self.lines.as_slice(), Some(vid));
         self.lines = lines;
