@@ -1,7 +1,7 @@
 //! The end of a cycle: heads that go, the delivery, and the update.
 
 ghost use Rattle.std.specs.Prelude.{◌≡◌, ◌+◌, ◌<◌, Some, None, option_copied};
-ghost use Rattle.scoreboard.specs.Times.{AreLinesOf, AreBefore};
+ghost use Rattle.scoreboard.specs.Times.{AreLinesOf, AreBefore, OnlyMembersLag};
 ghost use Rattle.table_update.specs.Updates.{applied, named_group, read_update};
 ghost use Rattle.run.specs.Cycle.{outcome_of, read_outcome, update_in, update_outcome};
 ghost use Rattle.run.specs.Element.{own_service, own_delivery, own_handed, kept_by, kept_with};
@@ -27,6 +27,7 @@ impl Standing {
         requires cycle { self.old.cycle < 100000 }
         requires lines { AreLinesOf self.old.table after.old }
         requires earlier { AreBefore (self.old.cycle + 1) after.old }
+        requires members { OnlyMembersLag self.old.table after.old }
         ensures kept { self.new ≡ record {
           me = self.old.me;
           cycle = self.old.cycle + 1;

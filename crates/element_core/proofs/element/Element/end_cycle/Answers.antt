@@ -9,7 +9,11 @@ use Rattle.run.specs.Sent.{is_relayed}
 use Rattle.run.specs.Element.{Kept, own_entry, own_update, own_service, own_handed, made, kept_after}
 use Rattle.run.specs.Noted.{noted_by, decided_by}
 use Rattle.run.proofs.PhaseLaws.{kept_size}
-use Rattle.element_core.specs.ElementValue.{ElementValue, packets_now, decision_now, ended_with}
+use Rattle.flag_vote.specs.Flags.{voted_flags}
+use Rattle.scoreboard.specs.Board.{Scoreboard}
+use Rattle.scoreboard.specs.Times.{OnlyMembersLag}
+use Rattle.scoreboard.proofs.MemberLags.{members_step}
+use Rattle.element_core.specs.ElementValue.{ElementValue, pattern_now, packets_now, decision_now, ended_with}
 use Rattle.element_core.specs.Midst.{element_with}
 use Rattle.element_core.specs.Told.{told_of}
 use Rattle.element_core.proofs.StepLaws.{kept_me}
@@ -101,6 +105,14 @@ pub serve-handed-requires-clause-earlier : goal.serve-handed-requires-clause-ear
 serve-handed-requires-clause-earlier g c =
     let due = ap (λ (v : ElementValue). v.due) c.self.view_is ∙ c.requires in
     (c.self.invariant.0.agreed (rw due (omega arith))).earlier
+
+pub serve-handed-requires-clause-members : goal.serve-handed-requires-clause-members
+serve-handed-requires-clause-members g c =
+    let s = c.self.inside in
+    let e = element_with s.kept s.patterns s.packets s.due (option_map (told_of {n = g.row.N}) s.last) s.log in
+    let due = ap (λ (v : ElementValue). v.due) c.self.view_is ∙ c.requires in
+    subst (λ (board : Scoreboard). OnlyMembersLag s.kept.table board) (sym (c.self.invariant.0.agreed (rw due (omega arith))).after)
+    (members_step s.kept.table s.kept.cycle (voted_flags s.kept.table (pattern_now e)) s.kept.scoreboard)
 
 -- ---- what is made of the cycle
 

@@ -1,5 +1,5 @@
 use Rattle.std.proofs.Common.{◌≡◌, ◌<◌, ◌+◌, refl, sym, subst}
-use Rattle.scoreboard.specs.Times.{AreLinesOf, AreBefore}
+use Rattle.scoreboard.specs.Times.{AreLinesOf, AreBefore, OnlyMembersLag}
 use Rattle.run.specs.Element.{Kept}
 use Rattle.element_core.specs.Standing.{kept_at}
 use Rattle.element_core.proofs.Standings.{stands_with, stands_next}
@@ -25,3 +25,4 @@ invariant_of-self c =
     (subst (λ (k : Kept). k.cycle < 100000) (sym c.self.view_is) c.requires.cycle)
     (subst (AreLinesOf table) (sym is) (subst (λ (k : Kept). AreLinesOf k.table c.args.after.now) (sym c.self.view_is) c.requires.lines))
     (subst (AreBefore (cycle + 1)) (sym is) (subst (λ (k : Kept). AreBefore (k.cycle + 1) c.args.after.now) (sym c.self.view_is) c.requires.earlier))
+    (subst (OnlyMembersLag table) (sym is) (subst (λ (k : Kept). OnlyMembersLag k.table c.args.after.now) (sym c.self.view_is) c.requires.members))
