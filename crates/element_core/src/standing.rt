@@ -8,6 +8,7 @@ ghost use Rattle.flag_vote.specs.Flags.{voted_flags};
 ghost use Rattle.scoreboard.specs.Board.{empty_scoreboard};
 ghost use Rattle.scoreboard.specs.Choice.{scoreboard_decision, scoreboard_after};
 ghost use Rattle.scoreboard.specs.Times.{AreLinesOf, AreBefore};
+ghost use Rattle.rejoin.specs.State.{IsInRange, IsState};
 ghost use Rattle.run.specs.Processors.{empty_ports, read_answer};
 ghost use Rattle.run.specs.AloneRun.{own_act, own_answer};
 ghost use Rattle.run.specs.Element.{own_packet};
@@ -20,6 +21,7 @@ use ftpp_base::{Ne, NoMemory, Round, Slot};
 use local_pattern::SystemPattern;
 use packet_format::{Delivered, Descriptor, Packet};
 use processor_buffers::PostFull;
+use rejoin::{AgreedState, encode_state};
 use scoreboard::Scoreboard;
 use std::alloc::Global;
 use std::marker::Model;
@@ -58,6 +60,43 @@ impl Standing {
             table: table.copy(),
             scoreboard: Scoreboard::new(table),
             ports,
+        })
+    }
+
+    /// Begins anew on a table, in the memory that it has: no requests, and empty ports.
+    pub(crate) fn reset(&mut self, table: &Table)
+        requires { self.old.me < table.now.n }
+        ensures { self.new ≡ record { me = self.old.me; cycle = 0; table = table.now; scoreboard = empty_scoreboard table.now; ports = empty_ports } }
+    {
+        self.cycle = 0;
+        self.table = table.copy();
+        self.scoreboard = Scoreboard::new(table);
+        self.ports.reset(table);
+    }
+
+    /// Goes over to an agreed state, in the memory that it has, with empty ports.
+    pub(crate) fn take(&mut self, state: &AgreedState)
+        requires me { self.old.me < state.now.table.n }
+        requires in_range { IsInRange state.now.cycle state.now.table state.now.rows.items }
+        ensures { self.new ≡ record { me = self.old.me; cycle = state.now.cycle; table = state.now.table; scoreboard = state.now.rows.items; ports = empty_ports } }
+    {
+        self.cycle = state.cycle;
+        self.table = state.table.copy();
+        self.scoreboard
+            .restore(&state.table, &state.rows, state.cycle);
+        self.ports.reset(&state.table);
+    }
+
+    /// The bytes of its agreed state.
+    pub(crate) fn state(&self) -> [u8; 1887]
+        ensures { IsState result self.now.cycle self.now.table self.now.scoreboard }
+    {
+        // a table is valid by its type
+        let _valid = self.table.n();
+        encode_state(&AgreedState {
+            cycle: self.cycle,
+            table: self.table.copy(),
+            rows: self.scoreboard.snapshot(&self.table),
         })
     }
 

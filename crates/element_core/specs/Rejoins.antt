@@ -1,0 +1,30 @@
+-- How an element rejoins: by the vote over what the others tell of their agreed states.
+use Rattle.std.specs.Prelude.{◌≡◌, ℕ, ◌<◌, ◌⊎◌, List, map, length, Some}
+use Rattle.std.specs.List.{AllByRecursion}
+use Rattle.ftpp_base.specs.Lists.{cell_at, others}
+use Rattle.bit_vote.specs.Vote.{Cell, IsCell, vote}
+use Rattle.rejoin.specs.State.{IsState}
+use Rattle.run.specs.Run.{AgreedState}
+use Rattle.element_core.specs.declared.Rejoined.{Rejoined}
+use Rattle.element_core.specs.declared.Rejoined.TheVariants.{Taken, Refused}
+use Rattle.element_core.specs.ElementValue.{ElementValue, rejoined_with}
+
+-- the bytes are those of the agreed state
+abbrev pub IsStateOf : List ℕ → AgreedState → Type 0
+IsStateOf bytes state = IsState bytes state.cycle state.table state.scoreboard
+
+-- the vote over the entries of the other elements, ascending
+unfoldable pub others_vote : ℕ → ℕ → List Cell → Cell
+others_vote n me states = vote (map (cell_at states) (others n me))
+
+-- The others' states give, by their vote, the bytes of a state among as many elements.
+pub record IsVotedState (n me : ℕ) (states : List Cell) (state : AgreedState) : Type 0 where
+  pub bytes : List ℕ
+  pub voted : others_vote n me states ≡ Some bytes
+  pub is_state : IsStateOf bytes state
+  pub size : state.table.n ≡ n
+
+-- It is taken where there is such a state, and the element then begins from it. Else nothing changes.
+abbrev pub IsRejoined : ℕ → ElementValue → List Cell → Rejoined → ElementValue → Type 0
+IsRejoined n before states Taken after = (state : AgreedState) × IsVotedState n before.kept.me states state × (after ≡ rejoined_with before.kept.me state)
+IsRejoined n before states Refused after = ((state : AgreedState) → IsVotedState n before.kept.me states state → ⊥) × (after ≡ before)
