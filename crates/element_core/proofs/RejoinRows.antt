@@ -1,26 +1,26 @@
 -- An element's scoreboard as the rows of a state, and back.
 use Rattle.std.proofs.Common.{◌≡◌, ℕ, zero, suc, ◌+◌, ◌-◌, ◌<◌, ◌≤◌, Bool, true, false, cond, List, [], ◌∷◌, length, drop, refl, ap, sym, ◌∙◌, subst, arith, get_or-drop, Option, Some, None, unwrap_or, find, map}
-use Rattle.std.specs.Prelude.{All, IfSome, slice_index, ◌==◌}
+use Rattle.std.specs.Prelude.{All, slice_index, ◌==◌}
 use Rattle.std.specs.List.{zip, AllByRecursion}
 use Rattle.std.proofs.lemmas.List.Elements.{All-from_get_or, recursion_from_All, All-from_recursion}
 use Rattle.std.proofs.lemmas.Option.{same_Some}
 use Rattle.ftpp_base.proofs.Items.{all_items, item_contains, item_all, find_item}
-use Rattle.packet_format.specs.declared.Descriptor.{Descriptor}
 use Rattle.config_table.specs.declared.groups.Group.{Group}
 use Rattle.config_table.specs.declared.decisions.StateRow.{StateRow}
 use Rattle.config_table.specs.Groups.{members_of}
-use Rattle.config_table.specs.Table.{TableValue, IsValid, group_named, is_named}
+use Rattle.config_table.specs.Table.{TableValue, IsValid, is_named}
 use Rattle.config_table.proofs.ValidTable.{named-itself}
 use Rattle.scoreboard.specs.Board.{Scoreboard, Waiting, line_of, blank_line, is_line_of}
 use Rattle.scoreboard.specs.Times.{IsBefore, AreBefore, AreLinesOf, FitsGroup, OnlyMembersLag, line_for, lines_for}
 use Rattle.scoreboard.proofs.Rows.{line_vid}
 use Rattle.scoreboard.proofs.Kept.{before_blank, lines_for-same}
-use Rattle.scoreboard.proofs.MemberLags.{blank_fits}
 use Rattle.ftpp_base.specs.Lists.{cell_at, others}
 use Rattle.bit_vote.specs.Vote.{Cell, vote}
 use Rattle.element_ports.specs.Ports.{PortsValue, HasLimits}
-use Rattle.element_core.specs.Rejoins.{others_vote}
+use Rattle.element_core.specs.Rejoins.{others_vote, IsVotedState}
 use Rattle.element_core.proofs.Standings.{Stands}
+use Rattle.rejoin.specs.declared.AgreedState.{AgreedState}
+use Rattle.run.specs.Run.{AgreedState as Agreed}
 use Rattle.rejoin.specs.State.{RequestFits, LagsFit, RowFits, IsInRange, IsState, state_bytes}
 use Rattle.rejoin.proofs.Rows.{made_in_range, numbered, requests, lags}
 
@@ -150,3 +150,30 @@ pub voted_by : (n k me : ℕ) (states cells words : List Cell) (result : Cell) �
     → result ≡ others_vote n me states
 unfolding others_vote
 voted_by n k me states cells words result e same are all = e ∙ ap vote (same ∙ are ∙ ap (λ m. map (cell_at states) (others m me)) all)
+
+-- a state as its table with its rows
+abbrev with_rows : Agreed → AgreedState
+with_rows s = record { cycle = s.cycle; table = s.table; rows = record { items = s.scoreboard } }
+
+-- the bytes that are voted spell the voted state
+spelled_by : (n me : ℕ) (states : List Cell) (bytes : List ℕ) → ◌≡◌ {A = Cell} (Some bytes) (others_vote n me states) → (s : Agreed) (h : IsVotedState n me states s)
+    → IsState bytes s.cycle s.table s.scoreboard
+spelled_by n me states bytes e s h =
+    let same : h.bytes ≡ bytes = same_Some h.bytes bytes (sym (e ∙ h.voted)) in
+    subst (λ (xs : List ℕ). IsState xs s.cycle s.table s.scoreboard) same h.is_state
+
+-- where the vote is none there is no voted state
+pub none_voted : (n me : ℕ) (states : List Cell) → ◌≡◌ {A = Cell} None (others_vote n me states) → (s : Agreed) → IsVotedState n me states s → ⊥
+none_voted n me states e s h = let wrong : ◌≡◌ {A = Cell} None (Some h.bytes) = e ∙ h.voted in cc
+
+-- nor where it spells none
+pub none_spelled : (n me : ℕ) (states : List Cell) (bytes : List ℕ) → ◌≡◌ {A = Cell} (Some bytes) (others_vote n me states)
+    → ((s : AgreedState) → IsState bytes s.cycle s.table s.rows.items → ◌≡◌ {A = Option AgreedState} None (Some s)) → (s : Agreed) → IsVotedState n me states s → ⊥
+none_spelled n me states bytes e only s h = let wrong = only (with_rows s) (spelled_by n me states bytes e s h) in cc
+
+-- nor where it spells one among another number of elements
+pub other_size : (n me : ℕ) (states : List Cell) (bytes : List ℕ) (state : AgreedState) → ◌≡◌ {A = Cell} (Some bytes) (others_vote n me states)
+    → ((s : AgreedState) → IsState bytes s.cycle s.table s.rows.items → ◌≡◌ {A = Option AgreedState} (Some state) (Some s)) → (state.table.n ≡ n → ⊥) → (s : Agreed) → IsVotedState n me states s → ⊥
+other_size n me states bytes state e only wrong s h =
+    let same = same_Some state (with_rows s) (only (with_rows s) (spelled_by n me states bytes e s h)) in
+    wrong (ap (λ (x : AgreedState). x.table.n) same ∙ h.size)

@@ -1,8 +1,7 @@
 -- How an element rejoins: by the vote over what the others tell of their agreed states.
-use Rattle.std.specs.Prelude.{◌≡◌, ℕ, ◌<◌, ◌⊎◌, List, map, length, Some}
-use Rattle.std.specs.List.{AllByRecursion}
+use Rattle.std.specs.Prelude.{◌≡◌, ℕ, List, map, Some}
 use Rattle.ftpp_base.specs.Lists.{cell_at, others}
-use Rattle.bit_vote.specs.Vote.{Cell, IsCell, vote}
+use Rattle.bit_vote.specs.Vote.{Cell, vote}
 use Rattle.rejoin.specs.State.{IsState}
 use Rattle.run.specs.Run.{AgreedState}
 use Rattle.element_core.specs.declared.Rejoined.{Rejoined}

@@ -40,7 +40,7 @@ impl<const N: usize> Element<N> {
         requires due { self.old.due ≡ Due.Emit Round.A1 }
         ensures { IsRejoined N self.old states.now result self.new }
     {
-        match voted_state(self.me().index(), states) {
+        match voted_state(self.kept.me().index(), states) {
             Some(state) => {
                 self.take(&state);
                 Rejoined::Taken

@@ -13,4 +13,4 @@ pub invariant_of-self : goal.invariant_of-self
 invariant_of-self c =
     stands_taken c.args.state.now.cycle c.args.state.now.table c.args.state.now.rows.items _ _ c.reset.new.self c.self.inside.ports.me c.requires.in_range
     (subst (λ (k : Kept). k.me < c.args.state.now.table.n) (sym c.self.view_is) c.requires.me)
-    c.copy.ensures c.restore.ensures c.reset.ensures.me c.reset.ensures.limits
+    c.copy-self-inside.ensures c.restore.ensures.lines c.reset.ensures.me c.reset.ensures.limits
