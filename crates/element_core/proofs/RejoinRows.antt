@@ -22,6 +22,7 @@ use Rattle.element_core.proofs.Standings.{Stands}
 use Rattle.rejoin.specs.declared.AgreedState.{AgreedState}
 use Rattle.run.specs.Run.{AgreedState as Agreed}
 use Rattle.rejoin.specs.State.{RequestFits, LagsFit, RowFits, IsInRange, IsState, state_bytes}
+use Rattle.rejoin.proofs.Spelled.{one_state}
 use Rattle.rejoin.proofs.Rows.{made_in_range, numbered, requests, lags}
 
 -- ---- the rows of a scoreboard
@@ -132,8 +133,7 @@ pub stands_taken : (now : ℕ) (table : TableValue) (rows : List StateRow) (othe
     → IsInRange now table rows → me < table.n → other ≡ table → board ≡ rows → ports.me ≡ me → HasLimits table ports → Stands now other board ports
 stands_taken now table rows other board ports me right below t b m limits =
     let P : TableValue × List StateRow → Type 0 = λ x. Stands now x.0 x.1 ports in
-    subst P (λ i. (sym t i, sym b i))
-    (
+    subst P (λ i. (sym t i, sym b i)) (
       record {
         me = rw m below;
         cycle = right.cycle;
@@ -177,3 +177,9 @@ pub other_size : (n me : ℕ) (states : List Cell) (bytes : List ℕ) (state : A
 other_size n me states bytes state e only wrong s h =
     let same = same_Some state (with_rows s) (only (with_rows s) (spelled_by n me states bytes e s h)) in
     wrong (ap (λ (x : AgreedState). x.table.n) same ∙ h.size)
+
+-- there is one voted state at most
+pub same_state : (n me : ℕ) (states : List Cell) (s t : Agreed) → IsVotedState n me states s → IsVotedState n me states t → s ≡ t
+same_state n me states s t h k =
+    let is = spelled_by n me states k.bytes (sym k.voted) s h in
+    ap (λ (x : AgreedState). record { cycle = x.cycle; table = x.table; scoreboard = x.rows.items }) (one_state k.bytes (with_rows s) (with_rows t) is k.is_state)

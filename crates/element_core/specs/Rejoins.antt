@@ -1,7 +1,7 @@
 -- How an element rejoins: by the vote over what the others tell of their agreed states.
-use Rattle.std.specs.Prelude.{◌≡◌, ℕ, List, map, Some}
+use Rattle.std.specs.Prelude.{◌≡◌, ◌≢◌, ℕ, ◌<◌, ◌⊎◌, List, map, Some}
 use Rattle.ftpp_base.specs.Lists.{cell_at, others}
-use Rattle.bit_vote.specs.Vote.{Cell, vote}
+use Rattle.bit_vote.specs.Vote.{Cell, IsCell, vote}
 use Rattle.rejoin.specs.State.{IsState}
 use Rattle.run.specs.Run.{AgreedState}
 use Rattle.element_core.specs.declared.Rejoined.{Rejoined}
@@ -27,3 +27,16 @@ pub record IsVotedState (n me : ℕ) (states : List Cell) (state : AgreedState) 
 abbrev pub IsRejoined : ℕ → ElementValue → List Cell → Rejoined → ElementValue → Type 0
 IsRejoined n before states Taken after = (state : AgreedState) × IsVotedState n before.kept.me states state × (after ≡ rejoined_with before.kept.me state)
 IsRejoined n before states Refused after = ((state : AgreedState) → IsVotedState n before.kept.me states state → ⊥) × (after ≡ before)
+
+-- Where all entries of the others but at most one are the bytes of one state among as many elements, that is the voted one.
+abbrev pub CommonStateIsVoted : Type 0
+CommonStateIsVoted = (n me odd : ℕ) (bytes : List ℕ) (states : List Cell) (state : AgreedState) → (n ≡ 4) ⊎ (n ≡ 5) → me < n
+    → IsCell 1887 (Some bytes) → IsCell 1887 (cell_at states odd)
+    → ((k : ℕ) → k < n → k ≢ me → k ≢ odd → cell_at states k ≡ Some bytes)
+    → IsStateOf bytes state → state.table.n ≡ n → IsVotedState n me states state
+
+-- Where there is a voted state, an element that rejoins takes it.
+abbrev pub VotedStateIsTaken : Type 0
+VotedStateIsTaken = (n : ℕ) (before after : ElementValue) (states : List Cell) (answer : Rejoined) (state : AgreedState)
+    → IsVotedState n before.kept.me states state → IsRejoined n before states answer after
+    → (answer ≡ Taken) × (after ≡ rejoined_with before.kept.me state)

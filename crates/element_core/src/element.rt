@@ -113,7 +113,7 @@ impl<const N: usize> Element<N> {
         self.kept.cycle()
     }
 
-    /// What it made of the last cycle. None exactly before the end of the first cycle since it was made.
+    /// What it made of the last cycle. None exactly before the end of the first cycle since it was made, reset or rejoined.
     pub fn last(&self) -> Option<&CycleRecord<N>>
         ensures { option_map told_of (option_copied result) ≡ self.now.last }
     {
