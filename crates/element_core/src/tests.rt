@@ -2,7 +2,8 @@ mod bench;
 mod cases;
 
 use super::*;
-use bench::{Seat, arrive, leaving, new_seat, packet, post, read, run, send, take};
+use bench::{Seat, arrive, leaving, new_seat, packet, post, read, rejoin, run, send, state, take};
+use bit_vote::Cells;
 use cases::{CASES, Case, Done, ROUNDS, UPDATE};
 use config_table::{Decision, Kind};
 use frame_format::FrameBuf;
@@ -235,5 +236,29 @@ fn processors_post_and_read(rt: HostRuntime) -> Result<(), Fail> {
         let wanted = if count < 16 { Ok(()) } else { Err(PostFull) };
         assert_eq!(rt; answer, Some(wanted), "{count}");
     }
+    Ok(())
+}
+
+#[test]
+fn rejoins_by_the_vote(rt: HostRuntime) -> Result<(), Fail> {
+    let mut seat = new_seat(rt.alloc(), 0).ok_or("element")?;
+    let first = state(&seat).ok_or("state")?;
+    assert_eq!(rt; &first[..11], [0, 0, 0, 0, 4, 1, 5, 1, 4, 0, 0].as_slice());
+    for cycle in 0..7 {
+        garbled(&mut seat, cycle, 0).ok_or("cycle")?;
+    }
+    let later = state(&seat).ok_or("state")?;
+    assert_eq!(rt; &later[..4], [0, 0, 0, 7].as_slice());
+
+    // three equal states are taken, and two of them with any third; with one alone nothing changes
+    let mut other = new_seat(rt.alloc(), 3).ok_or("element")?;
+    let mut states = Cells::absent();
+    states.set(1, Some(later));
+    assert_eq!(rt; rejoin(&mut other, &states), Some(Rejoined::Refused));
+    assert_eq!(rt; (other.element.cycle(), state(&other)), (0, Some(first)));
+    states.set(0, Some(later));
+    states.set(2, Some([0xff; 1887]));
+    assert_eq!(rt; rejoin(&mut other, &states), Some(Rejoined::Taken));
+    assert_eq!(rt; (other.element.cycle(), state(&other)), (7, Some(later)));
     Ok(())
 }

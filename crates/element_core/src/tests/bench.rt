@@ -3,7 +3,8 @@
 ghost use Rattle.std.specs.Prelude.{◌≡◌, IfSome};
 
 use super::cases::{Case, Change, Edit, Posts, ROUNDS};
-use crate::{Due, Element};
+use crate::{Due, Element, Rejoined};
+use bit_vote::Cells;
 use config_table::{Group, Table};
 use frame_format::{FrameBuf, copy_frame};
 use ftpp_base::{Ne, Proc, Round, Row, Set8};
@@ -140,6 +141,22 @@ pub(super) fn read(seat: &mut Seat, port: u8) -> Option<Option<Delivered>> {
         return None;
     }
     Some(seat.element.host_read(port))
+}
+
+/// What an element tells of its agreed state, between two cycles.
+pub(super) fn state(seat: &Seat) -> Option<[u8; 1887]> {
+    if seat.element.due() != Due::Emit(Round::A1) {
+        return None;
+    }
+    Some(seat.element.state())
+}
+
+/// An element rejoins by what the others tell, between two cycles.
+pub(super) fn rejoin(seat: &mut Seat, states: &Cells<4, 1887>) -> Option<Rejoined> {
+    if seat.element.due() != Due::Emit(Round::A1) {
+        return None;
+    }
+    Some(seat.element.rejoin(states))
 }
 
 /// The processors post what they post in a cycle.
