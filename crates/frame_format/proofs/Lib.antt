@@ -2,3 +2,4 @@ pub mod Parts
 pub mod Decoded
 pub mod Walks
 pub mod Calls
+pub mod LikeFrames

@@ -5,7 +5,7 @@ ghost use Rattle.bit_vote.specs.Vote.{Cell};
 ghost use Rattle.frame_format.specs.Frames.{AreCells, IsOfAll, IsOfOne, IsWide, cell_bytes, decoded, first_cell, frame_head, reads_as, width_in};
 
 use crate::writing::head;
-use bit_vote::Cells;
+use bit_vote::{Cells, same_bytes};
 use ftpp_base::{Ne, Slot};
 
 /// Whether the bytes are the head of a frame of the slot and the sender, and as many bytes more.
@@ -87,4 +87,22 @@ pub fn decode_one<const B: usize>(slot: Slot, sender: Ne, bytes: &[u8]) -> Optio
     } else {
         None
     }
+}
+
+/// Whether two senders' bytes are headed as their frames of the slot and are equal behind the heads. Then they read alike,
+/// so that only one of them need be read.
+pub fn is_like(slot: Slot, sender: Ne, bytes: &[u8], other: Ne, before: &[u8]) -> bool
+    ensures { IsTrue result → (n : ℕ) → reads_as n slot sender bytes.now ≡ reads_as n slot other before.now }
+{
+    if before.len() < 6 {
+        return false;
+    }
+    let more = before.len() - 6;
+    if !is_headed(slot, sender, bytes, more) {
+        return false;
+    }
+    if !is_headed(slot, other, before, more) {
+        return false;
+    }
+    same_bytes(&bytes[6..], &before[6..])
 }
