@@ -1,10 +1,8 @@
 -- Cells one after the other, cut into their bytes.
-use Rattle.std.proofs.Common.{◌≡◌, ℕ, ◌+◌, ◌-◌, ◌*◌, ◌<◌, ◌≤◌, zero, suc, List, [], ◌∷◌, ◌++◌, Some, None, Bool, true, false, cond, length, get_or, take, drop, replicate, refl, sym, ◌∙◌, ap, arith, drop-cons, length-append, length-drop}
+use Rattle.std.proofs.Common.{◌≡◌, ◌↔◌, ℕ, ◌+◌, ◌-◌, ◌*◌, ◌<◌, ◌≤◌, zero, suc, List, [], ◌∷◌, ◌++◌, Some, None, Bool, true, false, cond, length, get_or, take, drop, replicate, refl, sym, ◌∙◌, ap, arith, drop-cons, length-append, length-drop}
 use Rattle.std.specs.Prelude.{slice_index, ◌==◌}
 use Rattle.std.specs.List.{flat_map, AllByRecursion}
 use Rattle.std.proofs.lemmas.List.{length-replicate, ext_get_or, take_rest}
-use Rattle.std.specs.Str.{bytes_eq}
-use Rattle.std.proofs.lemmas.Slice.Eq.{bytes_eq-Decides}
 use Rattle.std.proofs.Math.Seq.{drop-append-add, take-append_seam}
 use Rattle.std.proofs.Math.Nat.{suc-mul, zero-mul, add-mul, mul-le-mul_right}
 use Rattle.bit_vote.specs.Vote.{Cell}
@@ -84,21 +82,21 @@ cell_from-wide w bytes long = by_test (slice_index bytes 0 == 0) where
 first_and_rest : (bytes : List ℕ) → 0 < length bytes → bytes ≡ get_or bytes 0 0 ∷ drop 1 bytes
 first_and_rest bytes h = drop-cons bytes 0 0 h
 
-module _ (bytes row : List ℕ) (w : ℕ) (r : Bool) (long : length bytes ≡ w + 1) (read : row ≡ take (length bytes - 1) (drop 1 bytes)) (compared : r ≡ bytes_eq row (replicate w 0)) where
+module _ (bytes row : List ℕ) (w : ℕ) (r : Bool) (long : length bytes ≡ w + 1) (read : row ≡ take (length bytes - 1) (drop 1 bytes)) (compared : (r ≡ true) ↔ (row ≡ replicate w 0)) where
   the_row : row ≡ drop 1 bytes
   the_row = read ∙ take_rest bytes 1
 
   -- 0 and a row of zeros is the absent cell
   pub zeros_found : get_or bytes 0 0 ≡ 0 → r ≡ true → bytes ≡ cell_bytes w None
   zeros_found first same =
-      let zeros : row ≡ replicate w 0 = (bytes_eq-Decides row (replicate w 0)).0 (sym compared ∙ same) in
+      let zeros : row ≡ replicate w 0 = compared.0 same in
       first_and_rest bytes (omega arith) ∙ (λ t. first t ∷ (sym the_row ∙ zeros) t)
 
   -- and 0 with another row is no cell
   pub no_cell : get_or bytes 0 0 ≡ 0 → r ≡ false → (cell : Cell) → bytes ≡ cell_bytes w cell → ⊥
   no_cell first differs None is =
       let same : row ≡ replicate w 0 = the_row ∙ ap (drop 1) is in
-      let equal : r ≡ true = compared ∙ (bytes_eq-Decides row (replicate w 0)).1 same in
+      let equal : r ≡ true = compared.1 same in
       cc
   no_cell first differs (Some other) is =
       let one : get_or bytes 0 0 ≡ 1 = ap (λ l. get_or l 0 0) is in

@@ -16,7 +16,7 @@ fn is_headed(slot: Slot, sender: Ne, bytes: &[u8], more: usize) -> bool
         return false;
     }
     let wanted = head(slot, sender);
-    &bytes[..6] == wanted.as_slice()
+    same_bytes(&bytes[..6], &wanted)
 }
 
 /// The cell that the bytes are: 0 and zeros, or 1 and a row.
@@ -28,7 +28,13 @@ fn read_cell<const B: usize>(bytes: &[u8]) -> Option<Option<[u8; B]>>
     let mut row = [0; B];
     row.copy_from_slice(&bytes[1..]);
     match bytes[0] {
-        0 => { if row == [0; B] { Some(None) } else { None } }
+        0 => {
+            if same_bytes(&row, &[0; B]) {
+                Some(None)
+            } else {
+                None
+            }
+        }
         1 => Some(Some(row)),
         _ => None,
     }
