@@ -10,7 +10,7 @@ ghost use Rattle.element_notes.specs.Words.{is_off_word, IsWhole};
 
 use crate::entries::{Accused, Heading, Notes, note_each};
 use crate::sets::{element, put_if};
-use bit_vote::Cells;
+use bit_vote::{Cells, same_bytes};
 use ftpp_base::{Ne, Set8};
 use syndrome_log::SyndromeKind;
 use two_round::TwoRound;
@@ -27,7 +27,7 @@ pub(crate) fn differ<const B: usize>(a: &Option<[u8; B]>, b: &Option<[u8; B]>) -
     ensures { result ≡ not (same_cell a.now b.now) }
 {
     match (a, b) {
-        (Some(one), Some(other)) => one != other,
+        (Some(one), Some(other)) => !same_bytes(one, other),
         (None, None) => false,
         _ => true,
     }
