@@ -4,6 +4,7 @@ ghost use Rattle.std.specs.Prelude.{◌≡◌};
 ghost use Rattle.element_core.specs.ElementValue.{after_absorb, heard_with, frames_in};
 
 use crate::hearing::{hear_copies, hear_echoes};
+use crate::midst::is_quiet;
 use crate::{Due, Element};
 use ftpp_base::Round;
 use link_fabric::Link;
@@ -23,10 +24,24 @@ impl<const N: usize> Element<N> {
             Round::A1 => self.hear_patterns(link),
             Round::A2 => self.hear_pattern_echoes(link),
             Round::B1 => self.hear_packets(link),
-            Round::B2 => {
-                self.hear_packet_echoes(link);
-                self.end_cycle();
-            }
+            Round::B2 => self.hear_last(link),
+        }
+    }
+
+    /// Takes what the others hold of the packets, where it matters, and ends the cycle.
+    fn hear_last<L: Link<N>>(&mut self, link: &mut L)
+        requires due { self.old.due ≡ Due.Absorb Round.B2 }
+        requires owner { L.me link.old ≡ self.old.kept.me }
+        ensures element { self.new ≡ after_absorb Round.B2 (frames_in (L.came link.old)) self.old }
+        ensures owner { L.me link.new ≡ L.me link.old }
+        ensures came { L.came link.new ≡ L.came link.old }
+        ensures leaves { L.leaves link.new ≡ L.leaves link.old }
+    {
+        if is_quiet(&self.midst.decision) {
+            self.end_cycle();
+        } else {
+            self.hear_packet_echoes(link);
+            self.end_cycle();
         }
     }
 

@@ -7,10 +7,11 @@ ghost use Rattle.pattern_exchange.specs.Settled.{settled};
 ghost use Rattle.flag_vote.specs.Flags.{voted_flags};
 ghost use Rattle.scoreboard.specs.Choice.{scoreboard_decision, scoreboard_after};
 ghost use Rattle.scoreboard.specs.Times.{AreLinesOf, AreBefore};
+ghost use Rattle.element_core.specs.Quiet.{is_quiet};
 
 use crate::standing::Standing;
 use bit_vote::Cells;
-use config_table::Decision;
+use config_table::{Decision, Kind};
 use local_pattern::SystemPattern;
 use pattern_exchange::pattern_of;
 use scoreboard::Scoreboard;
@@ -41,5 +42,16 @@ impl<const N: usize> Midst<N> {
         self.results = patterns.results();
         self.pattern = pattern_of(&self.results);
         self.decision = kept.decide(&self.pattern, &mut self.after);
+    }
+}
+
+/// Whether what is relayed in the second round of packets makes no difference: there is no exchange of two rounds, and none
+/// of class 3.
+pub(crate) fn is_quiet(decision: &Decision) -> bool
+    ensures { result ≡ is_quiet decision.now }
+{
+    match decision {
+        Decision::Exchange(service) => service.kind == Kind::Voted && service.desc.class != 3,
+        _ => true,
     }
 }
