@@ -1,8 +1,11 @@
 -- Members that are gathered one after the other, and the flags that they make.
-use Rattle.std.proofs.Common.{◌≡◌, ℕ, ◌+◌, ◌<◌, ◌≤◌, Bool, true, false, cond, List, [], ◌∷◌, ◌++◌, length, map, drop, get_or, refl, ap, sym, ◌∙◌, arith, not, Option, Some, None, append_assoc}
-use Rattle.std.specs.Prelude.{◌==◌, ◌||◌, filter, find}
+use Rattle.std.proofs.Common.{◌≡◌, ℕ, ◌+◌, ◌<◌, ◌≤◌, Bool, true, false, cond, List, [], ◌∷◌, ◌++◌, length, map, drop, take, get_or, refl, ap, sym, ◌∙◌, arith, not, Option, Some, None, append_assoc}
+use Rattle.std.specs.Prelude.{◌==◌, ◌||◌, filter, find, count_by}
 use Rattle.std.specs.List.{enumerate_from}
-use Rattle.std.proofs.lemmas.List.{drop_more}
+use Rattle.std.proofs.lemmas.List.{drop_more, drop_all, take_more, map-append}
+use Rattle.std.proofs.lemmas.List.Elements.{filter-append}
+use Rattle.std.proofs.lemmas.Bool.{and_parts, ltb-false, le-ltb}
+use Rattle.ftpp_base.proofs.Counts.{count_by-cons, count_le}
 use Rattle.std.proofs.lemmas.List.Folds.{list_any-append}
 use Rattle.std.proofs.lemmas.Bool.Decides.{nat_tests}
 use Rattle.ftpp_base.specs.Bits.{byte_where, most}
@@ -14,8 +17,8 @@ use Rattle.ftpp_base.proofs.SetLaws.{has-set_where, set_where-same}
 use Rattle.packet_format.specs.declared.Descriptor.{Descriptor}
 use Rattle.config_table.specs.Groups.{live_members, elements_of}
 use Rattle.config_table.specs.declared.groups.Group.{Group}
-use Rattle.flag_vote.specs.Flags.{Pattern, has_space, descriptor_of, holders, all_hold, voted_descriptor, flags_of}
-use Rattle.flag_vote.specs.Words.{unmasked_from, held_by, all_hold_it, most_hold, most_held, flags_on}
+use Rattle.flag_vote.specs.Flags.{Pattern, holds, has_space, descriptor_of, holders, all_hold, voted_descriptor, flags_of}
+use Rattle.flag_vote.specs.Words.{asks, unmasked_from, held_by, all_hold_it, most_hold, most_held, flags_on}
 
 -- ---- one member more
 
@@ -45,6 +48,45 @@ filter_more test i ms d l =
 pub gathered : (row new kept left all rest : List Proc) → row ++ left ≡ all → left ≡ kept ++ rest → new ≡ row ++ kept → new ++ rest ≡ all
 gathered row new kept left all rest before more is =
     ap (λ l. l ++ rest) is ∙ append_assoc row kept rest ∙ ap (λ l. row ++ l) (sym more) ∙ before
+
+-- how many of them pass a test
+pub count_more : (test : Proc → Bool) (i : ℕ) (ms : List Proc) (d : Proc) → i < length ms
+    → count_by test (drop i ms) ≡ cond (test (get_or ms i d)) 1 0 + count_by test (drop (i + 1) ms)
+count_more test i ms d l = ap (count_by test) (drop_more ms i d l) ∙ count_by-cons test (get_or ms i d) (drop (i + 1) ms)
+
+pub one_at_most : (b : Bool) (before after i : ℕ) → after ≡ before + cond b 1 0 → before ≤ i → after ≤ i + 1
+one_at_most true before after i e l = omega arith
+one_at_most false before after i e l = omega arith
+
+-- none is left at the end
+pub none_left : (test : Proc → Bool) (i : ℕ) (ms : List Proc) → length ms ≤ i → count_by test (drop i ms) ≡ 0
+none_left test i ms l = ap (count_by test) (drop_all i ms l)
+
+one_kept : (b : Bool) (p : Proc) → elements_of (cond b (p ∷ []) []) ≡ cond b (p.ne ∷ []) []
+one_kept true p = refl
+one_kept false p = refl
+
+-- the elements of those in front that pass a test, and of the one behind them
+pub elements_more : (test : Proc → Bool) (i : ℕ) (ms : List Proc) (d : Proc) → i < length ms
+    → elements_of (filter test (take (i + 1) ms)) ≡ elements_of (filter test (take i ms)) ++ cond (test (get_or ms i d)) ((get_or ms i d).ne ∷ []) []
+elements_more test i ms d l =
+    ap (λ xs. elements_of (filter test xs)) (take_more ms i d l)
+    ∙ ap elements_of (filter-append test (take i ms) (get_or ms i d ∷ []))
+    ∙ map-append (λ (p : Proc). p.ne) (filter test (take i ms)) (filter test (get_or ms i d ∷ []))
+    ∙ ap (λ xs. elements_of (filter test (take i ms)) ++ xs) (one_kept (test (get_or ms i d)) (get_or ms i d))
+
+-- where not more than half have a request, no request is held by more than half
+no_most : (pattern : Pattern) (live : List Proc) (desc : Descriptor) → most (asks pattern) live ≡ false → most_hold pattern live desc ≡ false
+no_most pattern live desc few =
+    let le = count_le (holds pattern desc) (asks pattern) live (λ p h. (and_parts _ _ h).0) in
+    let n = ltb-false _ _ few in
+    le-ltb _ _ (omega arith)
+
+pub none_without_most : (pattern : Pattern) (live : List Proc) → most (asks pattern) live ≡ false → most_held pattern live ≡ None
+none_without_most pattern live few = none_found (map (descriptor_of pattern) live) where
+  none_found : (descs : List Descriptor) → find (most_hold pattern live) descs ≡ None
+  none_found [] = refl
+  none_found (d ∷ descs) = ap (λ (b : Bool). cond b (Some d) (find (most_hold pattern live) descs)) (no_most pattern live d few) ∙ none_found descs
 
 -- ---- one element more
 

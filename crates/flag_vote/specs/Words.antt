@@ -9,15 +9,21 @@ use Rattle.packet_format.specs.declared.Descriptor.{Descriptor}
 use Rattle.config_table.specs.Groups.{elements_of}
 use Rattle.config_table.specs.declared.decisions.GroupFlags.{GroupFlags}
 use Rattle.flag_vote.specs.declared.members.Word.{Word}
-use Rattle.flag_vote.specs.declared.members.Word.TheVariants.{Holds, Space}
+use Rattle.flag_vote.specs.declared.members.Word.TheVariants.{Asks, Holds, Space}
+use Rattle.local_pattern.specs.Pattern.{entry_of}
 use Rattle.flag_vote.specs.Flags.{Pattern, holds, has_space, descriptor_of}
 
 -- the members that are not masked, whose indices count from a number
 abbrev pub unmasked_from : Set8 → ℕ → List Proc → List Proc
 unmasked_from masked i members = map (λ seat. seat.1) (filter (λ seat. not (has masked seat.0)) (enumerate_from i members))
 
+-- whether a member has a request
+abbrev pub asks : Pattern → Proc → Bool
+asks pattern proc = (entry_of pattern proc).not_empty
+
 -- whether a member says the word
 abbrev pub says : Pattern → Word → Proc → Bool
+says pattern Asks = asks pattern
 says pattern (Holds desc) = holds pattern desc
 says pattern Space = has_space pattern
 

@@ -7,7 +7,7 @@ ghost use Rattle.config_table.specs.Groups.{elements_of};
 ghost use Rattle.flag_vote.specs.Flags.{flags_of, voted_flags};
 ghost use Rattle.flag_vote.specs.Words.{flags_on, most_hold, most_held, held_by, all_hold_it};
 
-use crate::members::{Word, all_say, elements, live_members, those};
+use crate::members::{Word, all_say, count_those, elements, live_members, said_at};
 use config_table::{Group, GroupFlags, Table, VotedFlags};
 use ftpp_base::{Proc, Set8};
 use local_pattern::SystemPattern;
@@ -26,8 +26,8 @@ fn most_hold<const N: usize>(pattern: &SystemPattern<N>, desc: Descriptor, live:
     requires { length live.now ≤ 4 }
     ensures { result ≡ most_hold pattern.now live.now desc }
 {
-    let holders = those(pattern, &Word::Holds(desc), live);
-    is_majority(holders.len(), live.len())
+    let holders = count_those(pattern, &Word::Holds(desc), live);
+    is_majority(holders, live.len())
 }
 
 /// The request that more than half of the live members hold, if any.
@@ -44,6 +44,19 @@ fn first_held<const N: usize>(pattern: &SystemPattern<N>, live: &[Proc]) -> Opti
     None
 }
 
+/// The same. Without more than half of them that have a request there is none.
+fn voted_by<const N: usize>(pattern: &SystemPattern<N>, live: &[Proc]) -> Option<Descriptor>
+    requires { length live.now ≤ 4 }
+    ensures { result ≡ most_held pattern.now live.now }
+{
+    let asking = count_those(pattern, &Word::Asks, live);
+    if is_majority(asking, live.len()) {
+        first_held(pattern, live)
+    } else {
+        None
+    }
+}
+
 /// The elements of the live members that hold the voted request, and whether all of them do.
 fn held<const N: usize>(
     pattern: &SystemPattern<N>,
@@ -57,9 +70,9 @@ fn held<const N: usize>(
     match voted {
         Some(desc) => {
             let word = Word::Holds(desc);
-            let holders = those(pattern, &word, live);
+            let holders = said_at(pattern, &word, live);
             let all = all_say(pattern, &word, live);
-            (elements(holders.as_slice()), all)
+            (holders, all)
         }
         None => (elements(&[]), false),
     }
@@ -70,17 +83,17 @@ fn flags_on<const N: usize>(pattern: &SystemPattern<N>, vid: u8, live: &[Proc]) 
     requires { length live.now ≤ 4 }
     ensures { result ≡ flags_on pattern.now vid live.now }
 {
-    let desc = first_held(pattern, live);
+    let desc = voted_by(pattern, live);
     let (holds, unanimous) = held(pattern, live, desc);
-    let space = those(pattern, &Word::Space, live);
-    let most_space = is_majority(space.len(), live.len());
+    let with_space = count_those(pattern, &Word::Space, live);
+    let most_space = is_majority(with_space, live.len());
     GroupFlags {
         vid,
         desc,
         unanimous,
         live: elements(live),
         holds,
-        space: elements(space.as_slice()),
+        space: said_at(pattern, &Word::Space, live),
         most_space,
     }
 }

@@ -12,9 +12,10 @@ use ftpp_base::{Proc, Row, Set8};
 use local_pattern::SystemPattern;
 use packet_format::Descriptor;
 
-/// What a member may say: that it holds a request, or that its input has room.
+/// What a member may say: that it has a request, that it holds this one, or that its input has room.
 #[derive(Drop)]
 pub enum Word {
+    Asks,
     Holds(Descriptor),
     Space,
 }
@@ -68,24 +69,36 @@ fn says<const N: usize>(pattern: &SystemPattern<N>, word: &Word, proc: Proc) -> 
 {
     let entry = pattern.shown(proc);
     match word {
+        Word::Asks => entry.not_empty,
         Word::Holds(desc) => entry.not_empty && same(&entry.desc, desc),
         Word::Space => entry.not_full,
     }
 }
 
-/// The members that say the word, in their order.
-pub fn those<const N: usize>(pattern: &SystemPattern<N>, word: &Word, members: &[Proc]) -> Members
-    requires { length members.now ≤ 4 }
-    ensures items { result.items ≡ filter (says pattern.now word.now) members.now }
-    ensures count { length result.items ≡ count_by (says pattern.now word.now) members.now }
-    ensures few { length result.items ≤ 4 }
+/// One more, where it counts.
+fn one_more(count: usize, counts: bool) -> usize
+    requires { count < 4 }
+    ensures { result ≡ count + (if counts then 1 else 0) }
 {
-    let mut row = Members::new();
+    if counts { count + 1 } else { count }
+}
+
+/// How many members say the word.
+pub fn count_those<const N: usize>(
+    pattern: &SystemPattern<N>,
+    word: &Word,
+    members: &[Proc],
+) -> usize
+    requires { length members.now ≤ 4 }
+    ensures count { result ≡ count_by (says pattern.now word.now) members.now }
+    ensures few { result ≤ 4 }
+{
+    let mut count = 0;
     for p in members {
-        let keep = says(pattern, word, *p);
-        push_if(&mut row, keep, *p);
+        let counts = says(pattern, word, *p);
+        count = one_more(count, counts);
     }
-    row
+    count
 }
 
 /// Whether all members say the word.
@@ -107,6 +120,25 @@ fn with_element(set: Set8, ne: u8) -> Set8
     ensures { (xs : List ℕ) → set ≡ set_of xs → result ≡ set_of (xs ++ ne ∷ []) }
 {
     if ne < 8 { set.with(ne) } else { set }
+}
+
+/// The same, where it belongs there.
+fn with_element_if(set: Set8, belongs: bool, ne: u8) -> Set8
+    ensures { (xs : List ℕ) → set ≡ set_of xs → result ≡ set_of (xs ++ (if belongs then ne ∷ [] else [])) }
+{
+    if belongs { with_element(set, ne) } else { set }
+}
+
+/// The elements at which the members stand that say the word.
+pub fn said_at<const N: usize>(pattern: &SystemPattern<N>, word: &Word, members: &[Proc]) -> Set8
+    ensures { result ≡ set_of (elements_of (filter (says pattern.now word.now) members.now)) }
+{
+    let mut set = Set8 { bits: 0 };
+    for p in members {
+        let belongs = says(pattern, word, *p);
+        set = with_element_if(set, belongs, p.ne);
+    }
+    set
 }
 
 /// The elements at which the members stand.
