@@ -4,10 +4,14 @@ ghost use Rattle.std.specs.Prelude.{◌≡◌};
 
 use crate::FrameBuf;
 
-/// Copies all bytes of a frame, as one slice.
+/// Copies all bytes of a frame, as one slice. Where the lengths are equal, they are written over the old ones.
 pub fn copy_frame(from: &FrameBuf, into: &mut FrameBuf)
     ensures { into.new ≡ from.now }
 {
-    into.clear();
-    let _ = into.try_extend_from_slice(from.as_slice());
+    if into.len() == from.len() {
+        into.as_mut_slice().copy_from_slice(from.as_slice());
+    } else {
+        into.clear();
+        let _ = into.try_extend_from_slice(from.as_slice());
+    }
 }
