@@ -59,11 +59,19 @@ fn hear_copy<const N: usize, const B: usize, L: Link<N>>(
     ensures leaves { L.leaves link.new ≡ L.leaves link.old }
 {
     if sender != me {
-        link.take(sender, frame);
-        exchange.take_first(
-            sender,
-            decode_one(slot, sender, frame.as_slice()).unwrap_or(None),
-        );
+        match link.seen(sender) {
+            Some(came) => exchange.take_first(
+                sender,
+                decode_one(slot, sender, came.as_slice()).unwrap_or(None),
+            ),
+            None => {
+                link.take(sender, frame);
+                exchange.take_first(
+                    sender,
+                    decode_one(slot, sender, frame.as_slice()).unwrap_or(None),
+                );
+            }
+        }
     }
 }
 
@@ -115,8 +123,18 @@ fn hear_echo<const N: usize, const B: usize, L: Link<N>>(
     ensures leaves { L.leaves link.new ≡ L.leaves link.old }
 {
     if relay != me {
-        link.take(relay, frame);
-        let cells = decode::<N, B>(slot, relay, frame.as_slice()).unwrap_or(Cells::absent());
-        exchange.take_echo(relay, cells);
+        match link.seen(relay) {
+            Some(came) => {
+                let cells = decode::<N, B>(slot, relay, came.as_slice()).unwrap_or(Cells::absent());
+                exchange.take_echo(relay, cells);
+            }
+            None => {
+                link.take(relay, frame);
+                let cells = decode::<N, B>(slot, relay, frame.as_slice()).unwrap_or(
+                    Cells::absent(),
+                );
+                exchange.take_echo(relay, cells);
+            }
+        }
     }
 }

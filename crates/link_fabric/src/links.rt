@@ -1,6 +1,6 @@
 //! The link of one element.
 
-ghost use Rattle.std.specs.Prelude.{◌≡◌, ◌≢◌, ℕ, ◌<◌, List, [], length, slice_index_or, slice_set, replicate};
+ghost use Rattle.std.specs.Prelude.{◌≡◌, ◌≢◌, ℕ, ◌<◌, List, [], IfSome, length, slice_index_or, slice_set, replicate};
 ghost use Rattle.std.proofs.Common.{rules};
 ghost use Rattle.std.proofs.lemmas.Grind.{common_steps};
 ghost use Rattle.link_fabric.specs.Rows.{rows_of};
@@ -29,6 +29,16 @@ pub trait Link<const N: usize> {
         ensures me { me self.new ≡ me self.old }
         ensures came { came self.new ≡ came self.old }
         ensures leaves { leaves self.new ≡ leaves self.old };
+
+    /// The frame that came from an element, where it lies, if the link can show it.
+    fn seen(&self, from: Ne) -> Option<&FrameBuf>
+        requires below { from < N }
+        requires other { from ≢ me self.now }
+        ensures frame { IfSome result (λ frame. frame.now.items ≡ slice_index_or (came self.now) from []) }
+    {
+        let _ = from;
+        None
+    }
 
     /// Replaces the frame that leaves for an element.
     fn put(&mut self, to: Ne, frame: &FrameBuf)
@@ -116,6 +126,10 @@ impl<const N: usize> Link<N> for LinkEnd<N> {
 
     fn take(&mut self, from: Ne, into: &mut FrameBuf) {
         copy_frame(&self.came[from.index()], into);
+    }
+
+    fn seen(&self, from: Ne) -> Option<&FrameBuf> {
+        Some(&self.came[from.index()])
     }
 
     #[tactic(auto, using(crate::proofs::Written::rows_write))]
