@@ -12,7 +12,7 @@ use Rattle.ftpp_base.specs.declared.sets.Set8.{Set8}
 use Rattle.packet_format.specs.declared.Descriptor.{Descriptor}
 use Rattle.config_table.specs.declared.decisions.Service.{Service}
 use Rattle.processor_buffers.specs.declared.Handed.{Handed}
-use Rattle.cluster.specs.declared.report.PlainReport.{PlainReport}
+use Rattle.plain_cluster.specs.declared.report.PlainReport.{PlainReport}
 use Rattle.ftpp_top.specs.declared.totals.Totals.{Totals}
 use Rattle.ftpp_top.specs.Texts.{proc_text, behind_blank, elements_below, elements_text, kind_text, serve_line, discard_line, decision_line, handed_text, deliver_line, deliver_lines, cycle_lines, end_line, refusal_line}
 

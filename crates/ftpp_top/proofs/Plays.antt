@@ -11,10 +11,10 @@ use Rattle.ftpp_outside.specs.Told.{Adds}
 use Rattle.ftpp_outside.proofs.Told.{adds_none, adds_both}
 use Rattle.packet_format.specs.declared.Act.{Act}
 use Rattle.packet_format.specs.declared.Act.TheVariants.{Post, Read}
-use Rattle.cluster.specs.declared.requests.Line.{Line}
-use Rattle.cluster.specs.declared.requests.Request.{Request}
-use Rattle.cluster.specs.Requests.{vids_in, is_line_of, marked, ended_line, ended}
-use Rattle.cluster.specs.Plain.{State, start, after_cycle, report_of, lines_for, chosen_now, lines_now, queues_now, is_post, IsPost}
+use Rattle.plain_cluster.specs.declared.requests.Line.{Line}
+use Rattle.plain_cluster.specs.declared.requests.Request.{Request}
+use Rattle.plain_cluster.specs.Requests.{vids_in, is_line_of, marked, ended_line, ended}
+use Rattle.plain_cluster.specs.Plain.{State, start, after_cycle, report_of, lines_for, chosen_now, lines_now, queues_now, is_post, IsPost}
 use Rattle.processor_buffers.specs.Queues.{Queues}
 use Rattle.ftpp_top.specs.declared.totals.Totals.{Totals}
 use Rattle.ftpp_top.specs.Tables.{four_elements}

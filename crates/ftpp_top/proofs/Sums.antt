@@ -3,7 +3,7 @@ use Rattle.std.proofs.Common.{◌≡◌, ◌+◌, true, false, List, [], ◌∷�
 use Rattle.std.proofs.lemmas.Grind.{fold-append}
 use Rattle.processor_buffers.specs.declared.Handed.{Handed}
 use Rattle.processor_buffers.specs.declared.Handed.TheVariants.{Stored, Overrun}
-use Rattle.cluster.specs.declared.report.PlainReport.{PlainReport}
+use Rattle.plain_cluster.specs.declared.report.PlainReport.{PlainReport}
 use Rattle.ftpp_top.specs.Texts.{with_report, no_totals, totals_of, was_stored, was_overrun}
 
 -- a delivery is stored or overruns

@@ -2,8 +2,8 @@
 use Rattle.std.specs.Prelude.{ℕ, zero, suc, List, ◌++◌, map, length}
 use Rattle.std.specs.List.{flat_map}
 use Rattle.ftpp_base.specs.Lists.{below}
-use Rattle.cluster.specs.Plain.{State, start, report_of, after_cycle}
-use Rattle.cluster.specs.declared.report.PlainReport.{PlainReport}
+use Rattle.plain_cluster.specs.Plain.{State, start, report_of, after_cycle}
+use Rattle.plain_cluster.specs.declared.report.PlainReport.{PlainReport}
 use Rattle.ftpp_top.specs.Tables.{four_elements}
 use Rattle.ftpp_top.specs.Script.{Plan}
 use Rattle.ftpp_top.specs.Acts.{acts_at}

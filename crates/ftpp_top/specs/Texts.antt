@@ -14,7 +14,7 @@ use Rattle.config_table.specs.declared.decisions.Decision.{Decision}
 use Rattle.config_table.specs.declared.decisions.Decision.TheVariants.{Idle, Discard, Exchange}
 use Rattle.processor_buffers.specs.declared.Handed.{Handed}
 use Rattle.processor_buffers.specs.declared.Handed.TheVariants.{Stored, Overrun}
-use Rattle.cluster.specs.declared.report.PlainReport.{PlainReport}
+use Rattle.plain_cluster.specs.declared.report.PlainReport.{PlainReport}
 use Rattle.ftpp_top.specs.declared.totals.Totals.{Totals}
 
 -- how many bytes a buffer holds

@@ -5,10 +5,10 @@ ghost use Rattle.ftpp_top.specs.Texts.{room, kind_text, serve_line, discard_line
 
 use crate::text::TextBuf;
 use crate::totals::Totals;
-use cluster::PlainReport;
 use config_table::{Decision, Kind, Service};
 use ftpp_base::{Proc, Set8};
 use packet_format::Descriptor;
+use plain_cluster::PlainReport;
 use processor_buffers::Handed;
 
 fn kind_word(kind: &Kind, out: &mut TextBuf)

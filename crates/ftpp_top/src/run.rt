@@ -2,7 +2,7 @@
 
 ghost use Rattle.std.specs.Prelude.{◌≡◌, ℕ, ◌+◌, ◌<◌, ◌≤◌, length, vec_len, All, IfOk, OnOk, OnErr};
 ghost use Rattle.ftpp_outside.specs.Told.{Rose, Adds};
-ghost use Rattle.cluster.specs.Plain.{start, report_of, after_cycle, IsPost};
+ghost use Rattle.plain_cluster.specs.Plain.{start, report_of, after_cycle, IsPost};
 ghost use Rattle.ftpp_top.specs.declared.status.Status.TheVariants.{Write};
 ghost use Rattle.ftpp_top.specs.Tables.{four_elements};
 ghost use Rattle.ftpp_top.specs.Script.{plan_of};
@@ -17,10 +17,10 @@ use crate::status::Status;
 use crate::tables::built_in_4;
 use crate::text::TextBuf;
 use crate::totals::Totals;
-use cluster::Cluster;
 use ftpp_base::{NoMemory, Row};
 use ftpp_outside::{Sink, WriteFault, write_all};
 use packet_format::{Act, HostActs};
+use plain_cluster::Cluster;
 use std::alloc::Global;
 
 // The acts of a cycle, which come first, and those that follow.

@@ -3,9 +3,9 @@
 ghost use Rattle.std.specs.Prelude.{◌≡◌, ◌+◌, ◌≤◌, ◌<◌, length, count_by};
 ghost use Rattle.ftpp_top.specs.Texts.{no_totals, was_stored, was_overrun, with_report, IsBounded};
 
-use cluster::PlainReport;
 use config_table::Decision;
 use ftpp_base::Proc;
+use plain_cluster::PlainReport;
 use processor_buffers::Handed;
 
 /// How many cycles there were, how many of them served, discarded or were idle, and how many
