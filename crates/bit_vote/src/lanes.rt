@@ -1,4 +1,4 @@
-//! The vote, a vector of bytes after another.
+//! The vote, a vector of 32 bytes at a time.
 
 ghost use Rattle.std.specs.Prelude.{◌≡◌, ℕ, ◌<◌, ◌≤◌, ◌+◌, ◌*◌, ◌/◌, length, slice_index};
 ghost use Rattle.bit_vote.specs.Vote.{present, column, byte_vote, vote as vote_of};
@@ -9,7 +9,7 @@ use std::simd::prelude::*;
 /// How many bytes a vector has.
 const LANES: usize = 32;
 
-/// A block of the row's bytes.
+/// The 32 bytes of the row from `at` on.
 fn block_at<const B: usize>(row: &[u8; B], at: usize) -> u8x32
     requires { at + 32 ≤ B }
     ensures length { length result ≡ 32 }
@@ -19,7 +19,7 @@ fn block_at<const B: usize>(row: &[u8; B], at: usize) -> u8x32
     u8x32::from_slice(&whole[at..])
 }
 
-/// Puts a block into the row.
+/// Puts 32 bytes into the row, from `at` on.
 fn put_block<const B: usize>(row: &mut [u8; B], at: usize, block: u8x32)
     requires within { at + 32 ≤ B }
     requires length { length block ≡ 32 }
@@ -31,7 +31,7 @@ fn put_block<const B: usize>(row: &mut [u8; B], at: usize, block: u8x32)
     block.copy_to_slice(&mut whole[at..]);
 }
 
-/// The vote of the bytes of a block, lane by lane as `vote_byte` does it.
+/// The vote of the 32 bytes from `at` on. Each lane does what `vote_byte` does.
 fn vote_block<const B: usize>(list: &[Option<[u8; B]>], count: usize, at: usize) -> u8x32
     requires within { at + 32 ≤ B }
     requires few { length list.now ≤ 5 }
@@ -57,7 +57,7 @@ fn vote_block<const B: usize>(list: &[Option<[u8; B]>], count: usize, at: usize)
     fours
 }
 
-/// The vote over the list, as `vote` gives it, a block of bytes at a time.
+/// The same vote as `vote`, 32 bytes at a time.
 pub fn vote_lanes<const B: usize>(list: &[Option<[u8; B]>]) -> Option<[u8; B]>
     requires few { length list.now ≤ 5 }
     ensures { result ≡ vote_of list.now }

@@ -1,10 +1,10 @@
-//! The vote, one byte after another.
+//! The vote, one byte at a time.
 
 ghost use Rattle.std.specs.Prelude.{◌≡◌, ℕ, ◌<◌, ◌≤◌, ◌+◌, ◌*◌, ◌/◌, length};
 ghost use Rattle.std.specs.Int.{bit_at};
 ghost use Rattle.bit_vote.specs.Vote.{present, width, column, byte_vote, vote as vote_of};
 
-/// A row that is present counts as one. It is as wide as its type says.
+/// What a present row counts: one. Its clause also says how wide the row is.
 fn one_row<const B: usize>(row: &[u8; B]) -> usize
     ensures one { result ≡ 1 }
     ensures width { length row.now ≡ B }
@@ -29,8 +29,8 @@ pub(crate) fn count_present<const B: usize>(list: &[Option<[u8; B]>]) -> usize
     count
 }
 
-/// The ones and the twos of the number from which `count` rows are counted, so that a majority makes
-/// it 4 or more.
+/// The low bits, and the next ones, of the number at which counting starts at each bit. A majority of
+/// `count` rows then brings the number to 4 or more.
 pub(crate) fn start(count: usize) -> (u8, u8)
     requires some { 0 < count }
     requires few { count ≤ 5 }
@@ -45,8 +45,8 @@ pub(crate) fn start(count: usize) -> (u8, u8)
     }
 }
 
-/// The vote of one byte of the rows. The rows that have 1 are counted at all bits at once: bit i of the
-/// count at a bit stands there in `ones`, `twos` or `fours`.
+/// The vote of one byte of the rows. It counts the rows that have a 1, for all eight bits at once: the
+/// three digits of the count for bit i are bit i of `ones`, `twos` and `fours`.
 pub(crate) fn vote_byte<const B: usize>(list: &[Option<[u8; B]>], count: usize, at: usize) -> u8
     requires within { at < B }
     requires few { length list.now ≤ 5 }
@@ -69,8 +69,8 @@ pub(crate) fn vote_byte<const B: usize>(list: &[Option<[u8; B]>], count: usize, 
     fours
 }
 
-/// The vote over the list: none unless more than half of the list is present, and else the row whose
-/// bits more than half of the present rows have. A tie gives 0.
+/// The vote over the list. None unless more than half of the list is present; otherwise a row in which
+/// a bit is 1 exactly where more than half of the present rows have it. So a tie gives 0.
 pub fn vote<const B: usize>(list: &[Option<[u8; B]>]) -> Option<[u8; B]>
     requires few { length list.now ≤ 5 }
     ensures { result ≡ vote_of list.now }

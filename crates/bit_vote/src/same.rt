@@ -1,4 +1,4 @@
-//! Whether rows of bytes are equal, a vector of bytes after another.
+//! Whether rows of bytes are equal, compared a vector of 32 bytes at a time.
 
 ghost use Rattle.std.specs.Prelude.{◌≡◌, ◌↔◌, ◌≤◌, ◌+◌, IsTrue, length};
 ghost use Rattle.std.specs.Simd.Lanes.{chunk};
@@ -8,7 +8,7 @@ use std::simd::prelude::*;
 /// How many bytes a vector has.
 const LANES: usize = 32;
 
-/// A block of the bytes.
+/// The 32 bytes from `at` on.
 fn block_of(bytes: &[u8], at: usize) -> u8x32
     requires { at + 32 ≤ length bytes.now }
     ensures block { result ≡ chunk at 32 bytes.now }
@@ -26,7 +26,7 @@ fn is_same_block(a: u8x32, b: u8x32) -> bool
     a.simd_ne(b).to_bitmask() == 0
 }
 
-/// Whether the bytes are equal, of which there are as many.
+/// Whether two slices of one length are equal.
 pub fn same_bytes(a: &[u8], b: &[u8]) -> bool
     requires { length a.now ≡ length b.now }
     ensures { IsTrue result ↔ (a.now ≡ b.now) }

@@ -2,14 +2,13 @@
 
 ghost use Rattle.std.specs.Prelude.{◌≡◌, ◌<◌, ◌≤◌, ◌⊎◌, ◌↔◌, IsNone, IfSome};
 
+use crate::limits::MOST_ELEMENTS;
 use std::marker::Model;
-
-/// The most network elements of a cluster.
-pub const MOST_ELEMENTS: u8 = 5;
 
 /// The number of a network element, from 0. Clauses see the number itself.
 #[derive(Clone, Copy, Debug, PartialEq, Eq)]
 pub struct Ne {
+    /// Below `MOST_ELEMENTS`.
     number: u8,
 }
 
@@ -38,6 +37,16 @@ impl Ne {
         }
     }
 
+    /// The element at a place of a list by element.
+    pub fn at(place: usize) -> Ne
+        requires { place < MOST_ELEMENTS }
+        ensures { result ≡ place }
+    {
+        Ne {
+            number: place as u8,
+        }
+    }
+
     /// The number as a place in a list by element.
     pub fn index(self) -> usize
         ensures number { result ≡ self }
@@ -55,7 +64,7 @@ impl Ne {
     }
 }
 
-// an entry of a `Row` needs a value to begin with
+// An entry of a `Row` needs a value to begin with: here and below, that is the default.
 impl Default for Ne {
     ghost is_default = { λ e. e ≡ 0 };
 
@@ -64,10 +73,12 @@ impl Default for Ne {
     }
 }
 
-/// A processor: the element, and the port (0 to 7) at which it stands there.
+/// A processor by its place.
 #[derive(Clone, Copy, Debug, PartialEq, Eq, PartialOrd, Ord)]
 pub struct Proc {
+    /// The element at which it stands.
     pub ne: u8,
+    /// The port of that element, 0 to 7.
     pub port: u8,
 }
 

@@ -1,9 +1,9 @@
-//! What a step passes before it begins.
+//! Gates, which the steps of a parallel call enter before they begin.
 
 use std::marker::Sync;
 
-/// Each step of a parallel call passes it first, with its place. It promises nothing but to return,
-/// and no result depends on it. Tests use it to see that two steps run at the same time.
+/// Each step of a parallel call enters the gate first, with its place. The gate promises only that it
+/// returns, and no result depends on it. Tests use it to see that two steps run at the same time.
 pub trait Gate: Sync {
     /// Returns.
     fn enter(&self, place: u32);

@@ -1,13 +1,15 @@
-//! What every crate speaks of: elements, processors, rounds, sets and gates.
+//! What every crate speaks of: elements, processors, rounds, limits, sets and gates.
 #![tactic(auto)]
 
 mod element;
 mod gate;
+mod limits;
 mod sets;
 
 use arrayvec::ArrayVec;
-pub use element::{MOST_ELEMENTS, Ne, Proc, Round, Slot};
+pub use element::{Ne, Proc, Round, Slot};
 pub use gate::{Gate, OpenGate};
+pub use limits::{MOST_CYCLES, MOST_ELEMENTS, MOST_GROUPS, MOST_PROCESSORS, PORTS};
 pub use sets::{Set8, VidSet};
 
 /// A list of at most `N` items that takes no memory of its own.
@@ -30,13 +32,15 @@ mod tests {
             (4, 5, true),
             (0, 0, false),
         ] {
-            assert_eq!(rt; Ne::new(n, total).is_some(), taken, "{n} of {total}");
+            let element = Ne::new(n, total);
+            assert_eq!(rt; element.is_some(), taken, "{n} of {total}");
+            assert!(rt; !taken || element == Some(Ne::at(usize::from(n))));
         }
     }
 
     #[test]
     fn sets_hold_what_was_put(rt: HostRuntime) {
-        let set = Set8::default().with(0).with(7);
+        let set = Set8::EMPTY.with(0).with(7);
         assert_eq!(rt; set, Set8 { bits: 0x81 });
         assert!(rt; set.has(7) && !set.has(6));
         let mut groups = VidSet::new();

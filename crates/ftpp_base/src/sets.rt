@@ -13,6 +13,9 @@ pub struct Set8 {
 }
 
 impl Set8 {
+    /// The set with no number.
+    pub const EMPTY: Set8 = Set8 { bits: 0 };
+
     /// Whether the number is in the set.
     pub fn has(self, i: u8) -> bool
         requires { i < 8 }
@@ -21,7 +24,7 @@ impl Set8 {
         (self.bits >> i) & 1 == 1
     }
 
-    /// The set with one number more.
+    /// The set with this number added.
     pub fn with(self, i: u8) -> Set8
         requires { i < 8 }
         ensures { result ≡ with_number self i }
@@ -30,7 +33,7 @@ impl Set8 {
     }
 }
 
-/// The set of a byte, with one number more.
+/// The set of the bits of a byte, with this number added.
 fn with_bit(bits: u8, i: u8) -> Set8
     requires { i < 8 }
     ensures { result ≡ with_number (record { bits = bits }) i }
@@ -44,13 +47,14 @@ impl Default for Set8 {
     ghost is_default = { λ s. s.bits ≡ 0 };
 
     fn default() -> Set8 {
-        Set8 { bits: 0 }
+        Set8::EMPTY
     }
 }
 
 /// A set of group numbers. Clauses see it as one test for each number.
 #[derive(Clone, Copy, Debug)]
 pub struct VidSet {
+    /// Whether each number is in the set.
     tests: [bool; 256],
 }
 

@@ -7,7 +7,7 @@ ghost use Rattle.packet_format.specs.Packets.{IsInRange, IsInGrammar, IsDelivere
 use crate::{Delivered, Packet};
 use byteorder::{BigEndian, ByteOrder};
 
-/// The bytes of a delivered packet, whose groups are 1 to 254 and whose class is 1 or 2.
+/// The 71 bytes of a delivered packet whose groups are 1 to 254 and whose class is 1 or 2.
 pub fn encode_delivered(d: &Delivered) -> [u8; 71]
     requires { IsInRange d.now }
     ensures { result ≡ delivered_bytes d.now }
@@ -21,15 +21,15 @@ pub fn encode_delivered(d: &Delivered) -> [u8; 71]
     out
 }
 
-/// Whether the number is one of a group.
+/// Whether a group can have the number.
 fn is_group(vid: u8) -> bool
     ensures { IsTrue result ↔ (1 ≤ vid) × (vid ≤ 254) }
 {
-    1 <= vid && vid <= 254
+    (1..=254).contains(&vid)
 }
 
-/// The packet that the bytes are, and None for any that are not of 71 bytes with the groups and
-/// the class in their ranges.
+/// The delivered packet that the bytes spell. None where they are not 71 bytes, or where a group is
+/// not 1 to 254 or the class not 1 or 2.
 pub fn decode_delivered(bytes: &[u8]) -> Option<Delivered>
     ensures grammar { IsSome result ↔ IsInGrammar bytes.now }
     ensures found { IfSome result (IsDelivered bytes.now) }
@@ -40,7 +40,7 @@ pub fn decode_delivered(bytes: &[u8]) -> Option<Delivered>
     }
     let cycle = BigEndian::read_u32(bytes);
     let (from, class, dest) = (bytes[4], bytes[5], bytes[6]);
-    if !is_group(from) || class < 1 || class > 2 || !is_group(dest) {
+    if !is_group(from) || !(1..=2).contains(&class) || !is_group(dest) {
         return None;
     }
     let mut packet = Packet { bytes: [0; 64] };

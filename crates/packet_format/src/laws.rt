@@ -1,4 +1,5 @@
-//! Laws of numbers and of delivered packets as bytes, for the crates above. Nothing of this runs.
+//! Laws of numbers and of delivered packets as bytes. Each function states its laws as its clauses, and
+//! does nothing.
 
 ghost use Rattle.std.specs.Prelude.{◌≡◌, ℕ, List, length};
 ghost use Rattle.byteorder.specs.Endian.{big_bytes, big_number};
@@ -6,8 +7,8 @@ ghost use Rattle.packet_format.specs.declared.Delivered.{Delivered};
 ghost use Rattle.packet_format.specs.Numbers.{AreBytes, two_bytes, four_bytes, number_from};
 ghost use Rattle.packet_format.specs.Packets.{IsDelivered};
 
-/// Two bytes, and four, are those of the number that they are; and the bytes of a number, and the
-/// number that bytes are, are those that `byteorder` writes and reads.
+/// Two and four bytes are the bytes of the number that they spell. `byteorder` writes the same bytes for
+/// a number, and reads the same number.
 pub fn numbers_as_bytes()
     ensures two_back { (bytes : List ℕ) → length bytes ≡ 2 → AreBytes bytes → two_bytes (number_from bytes) ≡ bytes }
     ensures four_back { (bytes : List ℕ) → length bytes ≡ 4 → AreBytes bytes → four_bytes (number_from bytes) ≡ bytes }
@@ -17,8 +18,8 @@ pub fn numbers_as_bytes()
     ensures four_read { (bytes : List ℕ) → length bytes ≡ 4 → big_number 4 bytes ≡ number_from bytes }
 {}
 
-/// A delivered packet has one spelling, and bytes spell one packet at most: what is read is encoded
-/// to the same bytes, and what was encoded is read back.
+/// A delivered packet has one spelling, and bytes spell at most one packet. So what is read is encoded to
+/// the same bytes, and what was encoded is read back.
 pub fn one_spelling()
     ensures bytes { (xs ys : List ℕ) (d : Delivered) → IsDelivered xs d → IsDelivered ys d → xs ≡ ys }
     ensures packet { (xs : List ℕ) (d e : Delivered) → IsDelivered xs d → IsDelivered xs e → d ≡ e }

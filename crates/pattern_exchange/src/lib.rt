@@ -1,4 +1,4 @@
-//! The agreed pattern: what an element reads from the two rounds of all elements' patterns.
+//! The agreed pattern: what an element reads from two rounds in which all elements send their patterns.
 #![tactic(auto)]
 
 ghost use Rattle.std.specs.Prelude.{◌≡◌, ◌<◌, ◌≤◌};
@@ -12,16 +12,16 @@ use ftpp_base::Ne;
 use local_pattern::{LocalPattern, SystemPattern};
 use two_round::TwoRound;
 
-/// What the result for a source reads as.
+/// The pattern of one element, read from the result for it.
 fn column<const N: usize>(results: &Cells<N, 32>, source: Ne) -> LocalPattern
     requires { source < N }
     ensures { result ≡ read_column (cell_at results.now source) }
 {
-    LocalPattern::read(results.get(source.index()).as_ref())
+    LocalPattern::read(results.row(source.index()))
 }
 
-/// The pattern of all elements by their two-round results, each read entry by entry. No result, and
-/// an entry outside the grammar, show no request and no space.
+/// The pattern of all elements, each read entry by entry from its two-round result. Where there is no
+/// result, or an entry is outside the grammar, no request and no space are shown.
 pub fn pattern_of<const N: usize>(results: &Cells<N, 32>) -> SystemPattern<N>
     requires { N ≤ 5 }
     ensures read { result ≡ each_below N (λ s. read_column (cell_at results.now s)) }
@@ -29,9 +29,8 @@ pub fn pattern_of<const N: usize>(results: &Cells<N, 32>) -> SystemPattern<N>
 {
     let mut pattern = SystemPattern::quiet();
     for k in 0..N {
-        if let Some(source) = Ne::new(k as u8, N as u8) {
-            pattern.set_column(source, column(results, source));
-        }
+        let source = Ne::at(k);
+        pattern.set_column(source, column(results, source));
     }
     pattern
 }

@@ -14,18 +14,23 @@ use std::marker::Model;
 /// The most packets that an output or an input may hold.
 pub const MOST_SLOTS: usize = 64;
 
-/// The limits of the output and of the input before others are set.
-const USUAL_OUTS: u8 = 16;
+/// The limit of an output before another is set.
+pub const USUAL_OUTS: u8 = 16;
 
-const USUAL_INS: u8 = 32;
+/// The limit of an input before another is set.
+pub const USUAL_INS: u8 = 32;
 
-/// What waits to be sent and what waits to be read at one port, each up to its limit. Clauses see the two lists, the oldest
-/// first, and the two limits.
+/// The packets that wait at one port to be sent, and those that wait to be read, each up to a limit.
+/// Clauses see the two lists, the oldest first, and the two limits.
 #[derive(Drop)]
 pub struct PortBuffers {
+    /// The packets to be sent, each with its request.
     output: HeapCircularBuffer<(Descriptor, Packet)>,
+    /// The packets to be read.
     input: HeapCircularBuffer<Delivered>,
+    /// The limit of the output.
     outs: u8,
+    /// The limit of the input.
     ins: u8,
 }
 
@@ -41,7 +46,7 @@ impl Model for PortBuffers {
 }
 
 impl PortBuffers {
-    /// Empty buffers with the limits 16 and 32, and with the memory for 64 packets in each.
+    /// Empty buffers with the limits 16 and 32 and memory for 64 packets each, unless memory runs out.
     pub fn new(alloc: Global) -> Result<PortBuffers, NoMemory>
         ensures { IfOk result (λ b. b ≡ record { queues = no_queues; outs = 16; ins = 32 }) }
     {
@@ -62,7 +67,8 @@ impl PortBuffers {
         })
     }
 
-    /// Sets how many packets the output and the input hold at most: 1 to 64, and not less than they hold now.
+    /// Sets how many packets the output and the input may hold: 1 to 64, and not fewer than they hold
+    /// now.
     pub fn set_limits(&mut self, outs: u8, ins: u8)
         requires outs { IsLimit outs (length self.old.queues.output) }
         requires ins { IsLimit ins (length self.old.queues.input) }
@@ -79,7 +85,7 @@ impl PortBuffers {
         (self.outs, self.ins)
     }
 
-    /// Appends a packet with its request to the output.
+    /// Appends a packet with its request to the output, unless that is full.
     pub fn post(&mut self, desc: Descriptor, packet: Packet) -> Result<(), PostFull>
         ensures queues { self.new ≡ buffers_after (after_post self.old.outs (desc, packet)) self.old }
         ensures room { is_ok result ≡ has_out_room self.old.outs self.old.queues }
@@ -92,7 +98,7 @@ impl PortBuffers {
         Ok(())
     }
 
-    /// Takes the oldest packet out of the input.
+    /// Removes the oldest packet from the input and returns it, if there is one.
     pub fn read(&mut self) -> Option<Delivered>
         ensures queues { self.new ≡ buffers_after after_read self.old }
         ensures oldest { result ≡ first self.old.queues.input }
@@ -100,7 +106,7 @@ impl PortBuffers {
         self.input.pop_front()
     }
 
-    /// Appends a packet to the input, if that is not full.
+    /// Appends a packet to the input, unless that is full: then the packet is lost.
     pub fn deliver(&mut self, d: Delivered) -> Handed
         ensures queues { self.new ≡ buffers_after (after_delivery self.old.ins d) self.old }
         ensures handed { result ≡ handed_by self.old.ins self.old.queues }
@@ -113,14 +119,14 @@ impl PortBuffers {
         Handed::Stored
     }
 
-    /// The oldest packet of the output with its request.
+    /// The oldest packet of the output with its request, if there is one.
     pub fn head(&self) -> Option<(Descriptor, Packet)>
         ensures { result ≡ head_of self.now.queues }
     {
         self.output.front().copied()
     }
 
-    /// Takes the oldest packet out of the output, which is not empty.
+    /// Removes the oldest packet from the output, which is not empty.
     pub fn pop(&mut self)
         requires { 0 < length self.old.queues.output }
         ensures { self.new ≡ buffers_after without_head self.old }
@@ -128,7 +134,7 @@ impl PortBuffers {
         self.output.pop_front();
     }
 
-    /// Takes the oldest packet out of the output, if its request is this one.
+    /// Removes the oldest packet from the output, if its request is this one.
     pub fn pop_request(&mut self, desc: &Descriptor)
         ensures { self.new ≡ buffers_after (after_pop desc.now) self.old }
     {

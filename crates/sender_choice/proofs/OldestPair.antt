@@ -1,6 +1,6 @@
 -- The first eligible pair is the oldest.
-use Rattle.std.proofs.Common.{◌≡◌, ℕ, ◌<◌, ◌≤◌, true, false, Bool, cond, List, [], ◌∷◌, refl, arith, sym, ◌∙◌, ap, inl, inr, ◌⊎◌}
-use Rattle.std.specs.Prelude.{Some, find, option_map}
+use Rattle.std.proofs.Common.{◌≡◌, ℕ, ◌<◌, ◌≤◌, true, false, Bool, cond, List, [], ◌∷◌, refl, arith, sym, ◌∙◌, ap, subst, inl, inr, ◌⊎◌}
+use Rattle.std.specs.Prelude.{Option, Some, find, option_map}
 use Rattle.std.specs.List.{AllByRecursion}
 use Rattle.std.proofs.lemmas.Bool.{or_cases, and_parts, ltb-true, eqb-true, cases_eq}
 use Rattle.ftpp_base.specs.Vids.{has_vid}
@@ -45,3 +45,12 @@ choice_by false eligible p ps out order rest =
 pub first_is_oldest : (eligible : List Bool) (ps : List Pair) → InOrder ps → IsChoice (sinces_of ps) eligible (option_map shown (find (may_be eligible) ps))
 first_is_oldest eligible [] order = λ vid h. refl
 first_is_oldest eligible (p ∷ ps) order = choice_by (has_vid eligible p.vid) eligible p ps refl order (first_is_oldest eligible ps order.2)
+
+-- so what is chosen of the pairs that a chooser keeps is the choice among what it holds
+pub chosen : (eligible : List Bool) (kept looked held : List Pair) (o : Option (ℕ × ℕ)) → InOrder kept → kept ≡ held → looked ≡ kept
+    → o ≡ option_map shown (find (may_be eligible) looked) → IsChoice (sinces_of held) eligible o
+chosen eligible kept looked held o order is same found =
+    let P : List Pair → Type 0 = λ ps. IsChoice (sinces_of ps) eligible o in
+    let Q : Option (ℕ × ℕ) → Type 0 = λ x. IsChoice (sinces_of kept) eligible x in
+    let all : option_map shown (find (may_be eligible) looked) ≡ option_map shown (find (may_be eligible) kept) = ap (λ (ps : List Pair). option_map shown (find (may_be eligible) ps)) same in
+    subst P is (subst Q (sym (found ∙ all)) (first_is_oldest eligible kept order))

@@ -1,6 +1,7 @@
 -- What a chooser is seen as: since when each group waits, if it is held.
 use Rattle.std.specs.Prelude.{◌≡◌, ℕ, ◌<◌, ◌≤◌, ◌⊎◌, Bool, true, ◌==◌, List, count_by, Option, Some, None, is_some, if◌then◌else◌}
 use Rattle.ftpp_base.specs.Lists.{below}
+use Rattle.ftpp_base.specs.declared.limits.TheConstants.{MOST_GROUPS}
 use Rattle.ftpp_base.specs.Vids.{has_vid}
 
 -- for each group number the cycle since which it waits
@@ -28,7 +29,7 @@ held_count held = count_by (is_held held) (below 256)
 
 -- there is room for a group: it is held, or fewer than 40 groups are
 abbrev pub HasRoomFor : Sinces → ℕ → Type 0
-HasRoomFor held vid = (is_held held vid ≡ true) ⊎ (held_count held < 40)
+HasRoomFor held vid = (is_held held vid ≡ true) ⊎ (held_count held < MOST_GROUPS)
 
 -- A held eligible group, with the least pair of since and number of all of these.
 pub record IsOldest (held : Sinces) (eligible : List Bool) (vid since : ℕ) : Type 0 where

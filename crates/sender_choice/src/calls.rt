@@ -8,8 +8,11 @@ use ftpp_base::VidSet;
 /// A call to a chooser.
 #[derive(Clone, Copy, Debug)]
 pub enum ChoiceCall {
+    /// Holds a group since a cycle.
     Set { vid: u8, since: u32 },
+    /// Holds a group no longer.
     Clear { vid: u8 },
+    /// Asks for the oldest held group of a set.
     Oldest { eligible: VidSet },
 }
 

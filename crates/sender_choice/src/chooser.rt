@@ -5,7 +5,7 @@ ghost use Rattle.sender_choice.specs.Sinces.{Sinces, with_since, without_since, 
 
 use ftpp_base::VidSet;
 
-/// A map from the number of a group to the cycle since which it waits. At most 40 groups are held.
+/// A map from the number of a group to the cycle since which it waits. It holds at most 40 groups.
 pub trait Chooser {
     /// Since when each group waits, if it is held.
     ghost held: { Self → Sinces };
@@ -23,8 +23,8 @@ pub trait Chooser {
     fn since(&self, vid: u8) -> Option<u32>
         ensures { result ≡ held self.now vid };
 
-    /// Of the held groups in the set the one with the least pair of since and number, with its since.
-    /// None exactly where no group in the set is held.
+    /// The held group of the set that has the least pair of since and number, with its since. None
+    /// exactly where no group of the set is held.
     fn oldest(&self, eligible: &VidSet) -> Option<(u8, u32)>
         ensures { IsChoice (held self.now) eligible.now result };
 }

@@ -1,19 +1,22 @@
-//! The chooser of the scoreboard: pairs of since and number in order, so that the oldest stands in front.
+//! The chooser of the scoreboard keeps pairs of since and number in order, so that the oldest is in front.
 
 ghost use Rattle.std.specs.Prelude.{◌≡◌, ◌<◌, ◌≤◌, filter, option_map, find, length, take_while};
 ghost use Rattle.sender_choice.specs.Sinces.{nothing_held};
 
 use crate::Chooser;
-use ftpp_base::{Row, VidSet};
+use ftpp_base::{MOST_GROUPS, Row, VidSet};
 use std::marker::Model;
 
 /// A group that waits, and since when.
 #[derive(Clone, Copy, Debug, PartialEq, Eq)]
 struct Pair {
+    /// The cycle since which the group waits.
     since: u32,
+    /// The number of the group.
     vid: u8,
 }
 
+// An entry of a `Row` needs a value to begin with.
 impl Default for Pair {
     fn default() -> Pair {
         Pair { since: 0, vid: 0 }
@@ -23,7 +26,8 @@ impl Default for Pair {
 /// The chooser that keeps its groups in the order of since and number.
 #[derive(Drop)]
 pub struct IndexChooser {
-    pairs: Row<Pair, 40>,
+    /// One pair for each group that is held, in order.
+    pairs: Row<Pair, MOST_GROUPS>,
 }
 
 impl Model for IndexChooser {
@@ -34,10 +38,11 @@ impl Model for IndexChooser {
 
     ghost use Rattle.std.specs.Prelude.{◌≤◌, length};
     ghost use Rattle.sender_choice.specs.Pairs.{InOrder};
+    ghost use Rattle.ftpp_base.specs.declared.limits.TheConstants.{MOST_GROUPS};
 
     ghost view = { λ c. c.pairs.items };
 
-    ghost invariant = { λ c. (length c.pairs.items ≤ 40) × InOrder c.pairs.items };
+    ghost invariant = { λ c. (length c.pairs.items ≤ MOST_GROUPS) × InOrder c.pairs.items };
 }
 
 impl IndexChooser {
@@ -72,6 +77,7 @@ impl Chooser for IndexChooser {
             .map(|pair| pair.since)
     }
 
+    #[tactic(auto, using(crate::proofs::OldestPair::chosen))]
     fn oldest(&self, eligible: &VidSet) -> Option<(u8, u32)> {
         first_eligible(self.pairs.as_slice(), eligible)
     }
@@ -79,24 +85,24 @@ impl Chooser for IndexChooser {
 
 ghost use Rattle.sender_choice.specs.Pairs.{is_before, goes_before, is_other, put_in_order, may_be, shown};
 
-/// Takes the pair of a group out.
-fn take_out(pairs: &mut Row<Pair, 40>, vid: u8)
+/// Removes the pair of a group.
+fn take_out(pairs: &mut Row<Pair, MOST_GROUPS>, vid: u8)
     ensures { pairs.new.items ≡ filter (is_other vid) pairs.old.items }
 {
     pairs.retain(|pair| pair.vid != vid);
 }
 
-/// Puts a pair in behind those that are less.
-fn put_in(pairs: &mut Row<Pair, 40>, pair: Pair)
-    requires { length pairs.old.items < 40 }
+/// Inserts a pair behind those that come before it.
+fn put_in(pairs: &mut Row<Pair, MOST_GROUPS>, pair: Pair)
+    requires { length pairs.old.items < MOST_GROUPS }
     ensures items { pairs.new.items ≡ put_in_order pair pairs.old.items }
-    ensures fits { length pairs.new.items ≤ 40 }
+    ensures fits { length pairs.new.items ≤ MOST_GROUPS }
 {
     let place = place_in(pairs.as_slice(), &pair);
     pairs.insert(place, pair);
 }
 
-/// How many pairs in front are less.
+/// How many pairs come before this one.
 fn place_in(pairs: &[Pair], pair: &Pair) -> usize
     ensures { result ≡ length (take_while (goes_before pair.now) pairs.now) }
 {
@@ -106,21 +112,19 @@ fn place_in(pairs: &[Pair], pair: &Pair) -> usize
         .count()
 }
 
-/// Whether a pair is less than another.
+/// Whether a pair comes before another: it waits longer, or as long with a lower number.
 fn is_before(one: &Pair, other: &Pair) -> bool
     ensures { result ≡ is_before one.now other.now }
 {
     one.since < other.since || (one.since == other.since && one.vid < other.vid)
 }
 
-/// Number and since of the first pair whose group is in the set.
+/// Number and since of the first pair whose group is in the set, if there is one.
 fn first_eligible(pairs: &[Pair], eligible: &VidSet) -> Option<(u8, u32)>
     ensures { result ≡ option_map shown (find (may_be eligible.now) pairs.now) }
 {
-    for pair in pairs {
-        if eligible.has(pair.vid) {
-            return Some((pair.vid, pair.since));
-        }
-    }
-    None
+    pairs
+        .iter()
+        .find(|pair| eligible.has(pair.vid))
+        .map(|pair| (pair.vid, pair.since))
 }

@@ -1,4 +1,4 @@
-//! Which of the groups that wait is the oldest.
+//! Choosers, which find the group that has waited longest.
 #![tactic(auto)]
 
 mod calls;

@@ -1,4 +1,4 @@
-//! The plain chooser: one place for each group number, and a scan of all of them.
+//! The plain chooser keeps one place for each group number, and looks at all of them.
 
 ghost use Rattle.std.specs.Prelude.{◌≡◌};
 ghost use Rattle.sender_choice.specs.Sinces.{nothing_held};
@@ -10,6 +10,7 @@ use std::marker::Model;
 /// The plain chooser, which looks at every group number.
 #[derive(Clone, Copy, Debug)]
 pub struct ScanChooser {
+    /// Since when each group number waits, if it is held.
     sinces: [Option<u32>; 256],
 }
 
@@ -69,7 +70,7 @@ impl Chooser for ScanChooser {
 
 ghost use Rattle.sender_choice.specs.Scan.{older_with};
 
-/// The older of the best so far, which has a lower number, and a group, if that is held.
+/// The older of two groups: the best so far, whose number is lower, and another, if that is held.
 fn older(best: Option<(u8, u32)>, vid: u8, since: Option<u32>) -> Option<(u8, u32)>
     ensures { result ≡ older_with best vid since }
 {

@@ -12,9 +12,11 @@ use std::marker::Model;
 /// How many entries a log holds.
 pub const ENTRIES_KEPT: usize = 1024;
 
-/// The last 1,024 entries that were pushed since it was made or cleared. Clauses see it as the list of them, the oldest first.
+/// The last 1,024 entries that were pushed since the log was made or cleared. Clauses see the list of
+/// them, the oldest first.
 #[derive(Drop)]
 pub struct SyndromeLog {
+    /// The entries, in memory that is taken once.
     ring: HeapCircularBuffer<Syndrome>,
 }
 
@@ -30,7 +32,7 @@ impl Model for SyndromeLog {
 }
 
 impl SyndromeLog {
-    /// An empty log, with the memory for all that it will hold.
+    /// An empty log with memory for 1,024 entries, unless memory runs out.
     pub fn new(alloc: Global) -> Result<SyndromeLog, NoMemory>
         ensures { IfOk result (λ l. l ≡ []) }
     {
@@ -40,7 +42,7 @@ impl SyndromeLog {
         }
     }
 
-    /// Appends an entry. A full log gives up its oldest entry, which is returned.
+    /// Appends an entry. A full log drops its oldest entry, which is returned.
     pub fn push(&mut self, s: Syndrome) -> Option<Syndrome>
         ensures latest { self.new ≡ after_push self.old s }
         ensures overwritten { result ≡ (if nat_lt (length self.old) 1024 then None else slice_get self.old 0) }
@@ -48,7 +50,7 @@ impl SyndromeLog {
         self.ring.push_back(s)
     }
 
-    /// Appends all these entries, in their order. The oldest of all give way to those that would not fit.
+    /// Appends these entries in their order. Of all entries the last 1,024 are kept.
     pub fn extend_from_slice(&mut self, entries: &[Syndrome])
         ensures { self.new ≡ last_kept (self.old ++ entries.now) }
     {
@@ -70,7 +72,7 @@ impl SyndromeLog {
         self.ring.is_empty()
     }
 
-    /// The entry at a place, the oldest at 0.
+    /// The entry at a place, the oldest at 0. None past the last.
     pub fn get(&self, i: usize) -> Option<&Syndrome>
         ensures { option_copied result ≡ slice_get self.now i }
     {

@@ -1,4 +1,4 @@
-//! What many pushes leave: each function here stands for a law, which its clause states, and does nothing.
+//! Laws of many pushes. Each function states its law as its clause, and does nothing.
 
 ghost use Rattle.syndrome_log.specs.Log.{HoldsLastPushed, KeepsLastOfBoth};
 
@@ -7,7 +7,7 @@ pub fn holds_last_pushed()
     ensures { HoldsLastPushed }
 {}
 
-/// What a log drops makes no difference to what it holds later.
+/// The entries that a log dropped make no difference to what it holds later.
 pub fn keeps_last_of_both()
     ensures { KeepsLastOfBoth }
 {}

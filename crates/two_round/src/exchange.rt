@@ -5,19 +5,20 @@ ghost use Rattle.ftpp_base.specs.Lists.{cell_at, each_below};
 ghost use Rattle.two_round.specs.Echoes.{no_echoes, with_copy, with_relayed, relayed_at, word_of, result_for, result_of};
 ghost use Rattle.two_round.specs.Agreement.{IsAgreed};
 
-use crate::packed::PackedRows;
 use bit_vote::{Cells, vote_lanes};
 use ftpp_base::{Ne, Row, Set8};
 use std::marker::Model;
 
-/// What one element holds of an exchange in two rounds among `N` elements: its first-round copies by
-/// sender, its own value included, and the second-round cells by relay and sender. Cells are optional
-/// rows of `B` bytes.
+/// What one element holds of an exchange in two rounds among `N` elements. A cell is an optional row of
+/// `B` bytes.
 #[derive(Clone, Copy, Debug)]
 pub struct TwoRound<const N: usize, const B: usize> {
+    /// The element that holds it.
     me: Ne,
-    copies: PackedRows<N, B>,
-    relayed: [PackedRows<N, B>; N],
+    /// The first-round copies by sender, its own value included.
+    copies: Cells<N, B>,
+    /// The second-round cells by relay and sender.
+    relayed: [Cells<N, B>; N],
 }
 
 impl<const N: usize, const B: usize> Model for TwoRound<N, B> {
@@ -43,8 +44,8 @@ impl<const N: usize, const B: usize> TwoRound<N, B> {
     {
         TwoRound {
             me,
-            copies: PackedRows::absent(),
-            relayed: [PackedRows::absent(); N],
+            copies: Cells::absent(),
+            relayed: [Cells::absent(); N],
         }
     }
 
@@ -61,8 +62,8 @@ impl<const N: usize, const B: usize> TwoRound<N, B> {
         ensures among { result < N }
         ensures few { N ≤ 5 }
     {
-        // it is one of those that have a copy
-        let _elements = self.copies.len();
+        // Without a read of the copies the check does not find their type, and refuses this call.
+        let _copies = self.copies.len();
         self.me
     }
 
@@ -86,7 +87,7 @@ impl<const N: usize, const B: usize> TwoRound<N, B> {
     pub fn echo(&self) -> Cells<N, B>
         ensures { result ≡ self.now.copies }
     {
-        self.copies.cells()
+        self.copies
     }
 
     /// Takes the copies that another element sent in the second round.
@@ -95,7 +96,7 @@ impl<const N: usize, const B: usize> TwoRound<N, B> {
         requires other { from ≢ self.old.me }
         ensures { self.new ≡ with_relayed self.old from cells.entry }
     {
-        self.relayed[from.index()] = PackedRows::of(&cells);
+        self.relayed[from.index()] = cells;
     }
 
     /// The first-round copy of a source.
@@ -116,8 +117,7 @@ impl<const N: usize, const B: usize> TwoRound<N, B> {
         self.relayed[relay.index()].get(source.index())
     }
 
-    /// What the element counts as an element's word about a source: its own copy, or the cell that the
-    /// other one relayed.
+    /// The word of element `of` about a source: the own copy, or the cell that `of` relayed.
     fn word(&self, of: usize, source: usize) -> Option<[u8; B]>
         requires of { of < N }
         requires source { source < N }
@@ -130,7 +130,7 @@ impl<const N: usize, const B: usize> TwoRound<N, B> {
         }
     }
 
-    /// The vote over the words of all elements but the source, ascending.
+    /// The vote over the words of all elements but the source.
     fn voted(&self, source: usize) -> Option<[u8; B]>
         requires { source < N }
         ensures { result ≡ result_for self.now source }
@@ -145,12 +145,12 @@ impl<const N: usize, const B: usize> TwoRound<N, B> {
         vote_lanes(words.as_slice())
     }
 
-    /// The result for a source: the vote over the words of all elements but the source, ascending. It
-    /// is none exactly where at most half of these are present.
+    /// The result for a source: the vote over the words of all elements but the source. None exactly
+    /// where at most half of these are present.
     pub fn result(&self, source: Ne) -> Option<[u8; B]>
         requires { source < N }
         ensures vote { result ≡ result_for self.now source }
-        // Of the faulty source, too, it is what every other element comes to.
+        // Also for the faulty source, it is the value that every other element comes to.
         ensures agreed { IsAgreed B N self.now source result }
     {
         self.voted(source.index())
@@ -161,12 +161,11 @@ impl<const N: usize, const B: usize> TwoRound<N, B> {
         ensures results { result ≡ each_below N (result_for self.now) }
         ensures few { N ≤ 5 }
     {
-        // there are at most five of them, so a set has them all
-        let _elements = self.copies.len();
+        // A set has all of them, since there are at most five.
         self.results_of(Set8 { bits: 0xff })
     }
 
-    /// The results for the sources in a set, by source. Those of all others are absent.
+    /// The results for the sources of a set, by source. The results for all others are absent.
     pub fn results_of(&self, sources: Set8) -> Cells<N, B>
         ensures results { result ≡ each_below N (result_of sources self.now) }
         ensures few { N ≤ 5 }

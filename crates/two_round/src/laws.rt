@@ -1,4 +1,4 @@
-//! What holds of every exchange in two rounds: each function here stands for a law, which its clause states, and does nothing.
+//! Laws of every exchange in two rounds. Each function states its law as its clause, and does nothing.
 
 ghost use Rattle.std.specs.Prelude.{ℕ};
 ghost use Rattle.two_round.specs.Echoes.{Echoes, result_for};
@@ -10,7 +10,7 @@ pub fn agreement()
     ensures { Agreement }
 {}
 
-/// The same, for whatever an element holds, where it heard what such rounds let it hear.
+/// The same for any element that has heard what such rounds let it hear.
 pub fn agreement_where_heard()
     ensures { (wide n : ℕ) (x : Echoes) (sender : ℕ) → IsAgreed wide n x sender (result_for x sender) }
 {}

@@ -25,4 +25,4 @@ results_all n x few =
 
 pub returns-clause-results : goal.returns-clause-results
 unfolding all
-returns-clause-results g c = c.results_of.ensures.results ∙ results_all g.row.N c.args.self.now c.self.invariant.1
+returns-clause-results g c = c.results_of.ensures.results ∙ results_all g.row.N c.args.self.now c.results_of.ensures.few
