@@ -7,7 +7,8 @@ ghost use Rattle.fault_script.specs.Plays.{Told, Plays};
 use frame_format::{FrameBuf, copy_frame};
 use ftpp_base::{Ne, Slot};
 
-/// It is asked for each frame of the faulty element before the fabric carries it, and may give any bytes.
+/// What changes the frames of the faulty element: it is asked for each of them before the fabric carries it, and may give
+/// any bytes.
 pub trait Adversary {
     /// Its edits and the frames that it keeps of each round, or `None` where it does not tell.
     ghost told: { Self → Option Told };

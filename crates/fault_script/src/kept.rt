@@ -5,10 +5,10 @@ ghost use Rattle.ftpp_base.specs.declared.element.Round.{Round};
 ghost use Rattle.fault_script.specs.Kept.{same_sender, kept_with, repeated};
 ghost use Rattle.fault_script.specs.Held.{kept_frame, kept_frames, kept_by_round};
 
-use frame_format::{FrameBuf, copy_frame};
+use frame_format::{FRAME_BYTES, FrameBuf, copy_frame};
 use ftpp_base::Round;
 
-/// A frame before it was edited, with its cycle, if there is one.
+/// A frame before it was edited, with its cycle; there is none before one is kept.
 #[derive(Drop)]
 pub(crate) struct OwnFrame {
     held: bool,
@@ -17,6 +17,7 @@ pub(crate) struct OwnFrame {
 }
 
 impl OwnFrame {
+    /// No frame.
     fn none() -> OwnFrame
         ensures { kept_frame result ≡ None }
     {
@@ -36,6 +37,7 @@ pub(crate) struct RoundFrames {
 }
 
 impl RoundFrames {
+    /// No frames.
     fn none() -> RoundFrames
         ensures { kept_frames result ≡ record { now = None; before = None } }
     {
@@ -45,7 +47,7 @@ impl RoundFrames {
         }
     }
 
-    /// Keeps the frame of a cycle; one of another cycle moves back.
+    /// Keeps the frame of a cycle. It takes the place of one of the same cycle; one of another cycle is now the earlier one.
     fn keep(&mut self, cycle: u32, own: &FrameBuf)
         ensures { kept_frames self.new ≡ kept_with (kept_frames self.old) cycle own.now.items }
     {
@@ -60,7 +62,7 @@ impl RoundFrames {
     /// The bytes that a repeat sends in a cycle.
     fn repeated(&self, cycle: u32, own: &FrameBuf) -> &[u8]
         ensures bytes { result.now ≡ repeated (kept_frames self.now) cycle own.now.items }
-        ensures short { length result.now ≤ 331 }
+        ensures short { length result.now ≤ FRAME_BYTES }
     {
         let earlier = &self.earlier;
         let bytes = earlier.frame.as_slice();
@@ -75,7 +77,7 @@ impl RoundFrames {
     }
 }
 
-/// Whether both frames name their sender, and it is one.
+/// Whether both frames are long enough to name a sender, and name the same one.
 fn is_same_sender(one: &[u8], other: &[u8]) -> bool
     ensures { result ≡ same_sender one.now other.now }
 {
@@ -92,6 +94,7 @@ pub(crate) struct KeptByRound {
 }
 
 impl KeptByRound {
+    /// No frames of any round.
     pub(crate) fn none() -> KeptByRound
         ensures { (round : Round) → kept_by_round result round ≡ record { now = None; before = None } }
     {
@@ -119,7 +122,7 @@ impl KeptByRound {
     /// The bytes that a repeat sends in a round of a cycle.
     pub(crate) fn repeated(&self, round: Round, cycle: u32, own: &FrameBuf) -> &[u8]
         ensures bytes { result.now ≡ repeated (kept_by_round self.now round) cycle own.now.items }
-        ensures short { length result.now ≤ 331 }
+        ensures short { length result.now ≤ FRAME_BYTES }
     {
         match round {
             Round::A1 => self.a1.repeated(cycle, own),

@@ -8,11 +8,11 @@ ghost use Rattle.fault_script.specs.Edited.{same_round, names_round, names_recei
 use crate::adversaries::Adversary;
 use crate::kept::KeptByRound;
 use crate::{Edit, EditKind};
-use frame_format::{FrameBuf, copy_frame};
+use frame_format::{FRAME_BYTES, FrameBuf, copy_frame};
 use ftpp_base::{Ne, Round, Slot};
 
-/// Plays the edits of a script, in order. It walks them once over a run: the edits of the cycles before are
-/// behind it, and it goes back to the first one only where a frame of an earlier cycle is asked for.
+/// Plays the edits of a script, in order. Over a run it goes through them once: it starts each cycle at the first edit
+/// that is not of an earlier cycle, and looks from the first edit on only where a frame of an earlier cycle is asked for.
 #[derive(Drop)]
 pub struct Player<'a> {
     edits: &'a [Edit],
@@ -42,7 +42,7 @@ impl<'a> Player<'a> {
         }
     }
 
-    /// Where to look for the first edit of a cycle: from the first one on for a cycle that is behind.
+    /// Where to look for the first edit of a cycle: for a cycle before the present one from the first edit on.
     #[tactic(auto, using(crate::proofs::Walked::before_later))]
     fn start(&self, cycle: u32) -> usize
         ensures behind { IsTrue (all_before cycle (take result (edits_of self.now))) }
@@ -95,6 +95,7 @@ fn first_from(edits: &[Edit], start: usize, cycle: u32) -> usize
     at
 }
 
+/// Whether two rounds are the same.
 fn is_same_round(one: Round, other: Round) -> bool
     ensures { result ≡ same_round one other }
 {
@@ -108,6 +109,7 @@ fn is_same_round(one: Round, other: Round) -> bool
 }
 
 impl Edit {
+    /// Whether it is of this round, or of any.
     fn names_round(&self, round: Round) -> bool
         ensures { result ≡ names_round self.now.round round }
     {
@@ -117,6 +119,7 @@ impl Edit {
         }
     }
 
+    /// Whether it is of the frame to this element, or to all.
     fn names_receiver(&self, to: &Ne) -> bool
         ensures { result ≡ names_receiver self.now.to to.now }
     {
@@ -126,7 +129,7 @@ impl Edit {
         }
     }
 
-    /// Whether it is of the frame of a slot to an element.
+    /// Whether it changes the frame that is sent to an element in a slot.
     #[tactic(auto, unfolding(crate::specs::Edited::is_of))]
     fn is_of(&self, at: Slot, to: &Ne) -> bool
         ensures { result ≡ is_of at to.now self.now }
@@ -139,7 +142,7 @@ impl EditKind {
     /// Edits a frame; `earlier` is what a repeat sends.
     #[tactic(auto, using(crate::proofs::Walked::set_past))]
     fn edit(&self, earlier: &[u8], frame: &mut FrameBuf)
-        requires { length earlier.now ≤ 331 }
+        requires { length earlier.now ≤ FRAME_BYTES }
         ensures { frame.new.items ≡ edited_by self.now earlier.now frame.old.items }
     {
         match self {
@@ -163,7 +166,7 @@ impl EditKind {
 #[tactic(auto, using(crate::proofs::Walked::edited_on, crate::proofs::Walked::rest_later), unfolding(crate::specs::Edited::edited_frame))]
 fn play(edits: &[Edit], at: Slot, to: &Ne, earlier: &[u8], frame: &mut FrameBuf)
     requires in_order { IsTrue (never_fall 0 edits.now) }
-    requires short { length earlier.now ≤ 331 }
+    requires short { length earlier.now ≤ FRAME_BYTES }
     ensures { frame.new.items ≡ edited_frame edits.now at to.now earlier.now frame.old.items }
 {
     for edit in edits {

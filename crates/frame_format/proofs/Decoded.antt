@@ -14,14 +14,14 @@ use Rattle.bit_vote.specs.Vote.{Cell}
 use Rattle.frame_format.specs.Frames.{width_in, cells_in, cell_from, cells_from, frame_bytes, frame_length, IsWide, IsFrame, decoded}
 use Rattle.frame_format.proofs.Parts.{length-cells, cut-cells, cell_from-cell_bytes, cell_from-wide, one_more, room}
 
-length-frame : (n : ℕ) (slot : Slot) (sender : ℕ) (bytes : List ℕ) (cells : List Cell) → IsFrame n slot sender bytes cells → length bytes ≡ frame_length n slot.round
+pub length-frame : (n : ℕ) (slot : Slot) (sender : ℕ) (bytes : List ℕ) (cells : List Cell) → IsFrame n slot sender bytes cells → length bytes ≡ frame_length n slot.round
 length-frame n slot sender bytes cells is =
     let size = length-cells (width_in slot.round) cells is.wide ∙ ap (λ k. k * (width_in slot.round + 1)) is.count in
     let all = ap length is.spelled in
     omega arith
 
 -- the slice of a cell, with its beginning and with its length
-slice : (w i : ℕ) (bytes : List ℕ) → slice_range bytes (6 + i * (w + 1)) (6 + (i + 1) * (w + 1)) ≡ take (w + 1) (drop (i * (w + 1)) (drop 6 bytes))
+pub slice : (w i : ℕ) (bytes : List ℕ) → slice_range bytes (6 + i * (w + 1)) (6 + (i + 1) * (w + 1)) ≡ take (w + 1) (drop (i * (w + 1)) (drop 6 bytes))
 slice w i bytes =
     let e = one_more w i in
     let size : (6 + (i + 1) * (w + 1)) - (6 + i * (w + 1)) ≡ w + 1 = omega arith in

@@ -3,3 +3,4 @@ pub mod Decoded
 pub mod Walks
 pub mod Calls
 pub mod LikeFrames
+pub mod ByField

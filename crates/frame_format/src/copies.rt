@@ -1,10 +1,10 @@
-//! Copies of frames.
+//! Copies a frame.
 
 ghost use Rattle.std.specs.Prelude.{◌≡◌};
 
 use crate::FrameBuf;
 
-/// Copies all bytes of a frame, as one slice. Where the lengths are equal, they are written over the old ones.
+/// Copies all bytes of a frame in one step; over a frame of the same length without clearing it first.
 pub fn copy_frame(from: &FrameBuf, into: &mut FrameBuf)
     ensures { into.new ≡ from.now }
 {

@@ -1,9 +1,9 @@
-//! Frames from cells.
+//! Writes cells as a frame.
 
 ghost use Rattle.std.specs.Prelude.{◌≡◌, ◌≤◌, ◌+◌, ◌++◌, ◌⊎◌, [], ◌∷◌, length};
 ghost use Rattle.frame_format.specs.Frames.{IsOfAll, IsOfOne, cell_bytes, frame_bytes, frame_head, kind_byte, width_in};
 
-use crate::FrameBuf;
+use crate::{FRAME_BYTES, FrameBuf, HEAD};
 use bit_vote::Cells;
 use byteorder::{BigEndian, ByteOrder};
 use ftpp_base::{Ne, Round, Slot};
@@ -21,18 +21,19 @@ fn kind(round: Round) -> u8
 }
 
 /// The bytes before the cells: kind, cycle, sender.
-pub(crate) fn head(slot: Slot, sender: Ne) -> [u8; 6]
+pub(crate) fn head(slot: Slot, sender: Ne) -> [u8; HEAD]
     ensures { result ≡ frame_head slot sender }
 {
-    let mut bytes = [0; 6];
+    let mut bytes = [0; HEAD];
     bytes[0] = kind(slot.round);
     BigEndian::write_u32(&mut bytes[1..], slot.cycle);
     bytes[5] = sender.byte();
     bytes
 }
 
+/// Appends bytes to a frame.
 fn append(out: &mut FrameBuf, bytes: &[u8])
-    requires { length out.old.items + length bytes.now ≤ 331 }
+    requires { length out.old.items + length bytes.now ≤ FRAME_BYTES }
     ensures { out.new.items ≡ out.old.items ++ bytes.now }
 {
     let _ = out.try_extend_from_slice(bytes);
@@ -47,8 +48,9 @@ fn begin(out: &mut FrameBuf, slot: Slot, sender: Ne)
     append(out, &bytes);
 }
 
+/// Appends a cell: 1 and its row, or 0 and zeros.
 fn put_cell<const B: usize>(out: &mut FrameBuf, cell: Option<[u8; B]>)
-    requires { length out.old.items + (B + 1) ≤ 331 }
+    requires { length out.old.items + (B + 1) ≤ FRAME_BYTES }
     ensures items { out.new.items ≡ out.old.items ++ cell_bytes B cell.entry }
     ensures length { length out.new.items ≡ length out.old.items + (B + 1) }
 {

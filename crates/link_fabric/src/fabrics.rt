@@ -18,7 +18,7 @@ pub struct Carried {
     pub frame: FrameBuf,
 }
 
-/// What carries frames between elements. It cannot fail; what it delivers is another matter.
+/// What carries frames between elements. A call cannot fail, but a fabric that is not honest may deliver other bytes.
 pub trait Fabric {
     /// Whether it delivers each frame as it was sent.
     ghost honest: { Self → Bool };
@@ -47,7 +47,7 @@ impl Fabric for Mesh {
     }
 }
 
-/// Delivers each frame as it was sent, and tells all of them until there were too many.
+/// Delivers each frame as it was sent, and keeps a copy of each, until more came than there is room for.
 #[derive(Drop)]
 pub struct Recorder {
     kept: Vec<Carried>,
@@ -60,7 +60,7 @@ pub struct Recorder {
 impl Recorder {
     ghost use Rattle.link_fabric.specs.Recorded.{told_of, room_of};
 
-    /// A recorder of at most so many frames; it reserves the room for them.
+    /// A recorder with room for this many frames. Fails only where there is no memory for them.
     pub fn new(alloc: Global, frames: usize) -> Result<Recorder, NoMemory>
         ensures told { IfOk result (λ r. told_of r ≡ Some []) }
         ensures room { IfOk result (λ r. room_of r ≡ frames) }
@@ -75,7 +75,7 @@ impl Recorder {
         }
     }
 
-    /// The frames that were delivered, in order; None where more were carried than there is room for.
+    /// The frames that were delivered, in order; None once more were carried than there is room for.
     pub fn list(&self) -> Option<&[Carried]>
         ensures { MatchOption result (told_of self.now ≡ None) (λ frames. told_of self.now ≡ Some frames.now) }
     {

@@ -9,8 +9,8 @@ use arrayvec::ArrayVec;
 use frame_format::{FrameBuf, copy_frame};
 use ftpp_base::Ne;
 
-/// What an element takes frames from and puts frames to. It has a row of bytes for each element, both for
-/// what came and for what leaves; the rows at the element's own place are never used.
+/// Where an element takes the frames that came and puts the frames that leave. It has a row of bytes for each
+/// element, both for what came and for what leaves; the rows at the element's own place are never used.
 pub trait Link<const N: usize> {
     /// The number of the element whose link it is.
     ghost me: { Self → ℕ };
@@ -30,7 +30,7 @@ pub trait Link<const N: usize> {
         ensures came { came self.new ≡ came self.old }
         ensures leaves { leaves self.new ≡ leaves self.old };
 
-    /// The frame that came from an element, where it lies, if the link can show it.
+    /// Lends the frame that came from an element; None where a link can only copy it.
     fn seen(&self, from: Ne) -> Option<&FrameBuf>
         requires below { from < N }
         requires other { from ≢ me self.now }
@@ -66,7 +66,7 @@ pub struct LinkEnd<const N: usize> {
 }
 
 impl<const N: usize> LinkEnd<N> {
-    /// The link of an element to which no frame came yet: every row has no bytes.
+    /// The link of an element to which no frame came yet: all rows are empty.
     pub fn new(me: Ne) -> Self
         requires { me < N }
         ensures owner { result.owner ≡ me }
@@ -102,7 +102,7 @@ impl<const N: usize> LinkEnd<N> {
     }
 }
 
-/// A frame of no bytes for each element.
+/// An empty frame for each element.
 fn silence<const N: usize>() -> ArrayVec<FrameBuf, N>
     ensures { rows_of result.items ≡ replicate N [] }
 {

@@ -77,6 +77,8 @@ fn a_link_keeps_a_row_for_each_element(rt: HostRuntime) -> Result<(), Fail> {
     link.put(other, &frame(2));
     link.take(other, &mut taken);
     assert_eq!(rt; taken.as_slice(), [1u8].as_slice());
+    let seen = link.seen(other).ok_or("not shown")?;
+    assert_eq!(rt; seen.as_slice(), [1u8].as_slice());
     assert_eq!(rt; link.leaving(other).as_slice(), [2u8].as_slice());
     Ok(())
 }

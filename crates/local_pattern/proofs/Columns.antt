@@ -15,7 +15,7 @@ pub record HasRead (row : List ℕ) (port : ℕ) (entries : List Entry) : Type 0
   pub shown : (p : ℕ) → p < port → get_or entries p quiet ≡ read_entry (slice_range row (4 * p) (4 * p + 4))
 
 -- a list of eight items by its places
-eight_items : (xs : List Entry) → length xs ≡ 8 → xs ≡ map (λ i. get_or xs i quiet) eight
+pub eight_items : (xs : List Entry) → length xs ≡ 8 → xs ≡ map (λ i. get_or xs i quiet) eight
 eight_items xs long =
     drop-cons xs 0 quiet (omega arith)
     ∙ ap (λ l. get_or xs 0 quiet ∷ l) (drop-cons xs 1 quiet (omega arith)

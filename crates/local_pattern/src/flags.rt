@@ -51,7 +51,7 @@ pub fn flags_byte(not_empty: bool, not_full: bool) -> u8
     flags.bits()
 }
 
-/// The flags of a byte, output not empty and input not full, and None where it has others.
+/// The flags of a byte, output not empty and input not full; None where other bits are set.
 pub fn flags_of(byte: u8) -> Option<(bool, bool)>
     ensures known { IsSome result ↔ (byte < 4) }
     ensures flags { IfSome result (λ f. byte ≡ (if f.0 then 1 else 0) + (if f.1 then 2 else 0)) }

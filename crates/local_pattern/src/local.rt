@@ -7,7 +7,7 @@ use crate::Entry;
 use crate::spelling::{QUIET, read, spelled};
 use std::marker::Model;
 
-/// What the eight ports of an element show, by port. Clauses see the list of entries.
+/// What the eight ports of an element show. Clauses see the list of entries, by port.
 #[derive(Clone, Copy, Debug, PartialEq, Eq)]
 pub struct LocalPattern {
     entries: [Entry; 8],
@@ -38,7 +38,7 @@ fn put_entry(bytes: &mut [u8; 32], port: usize, entry: &Entry)
     bytes[at..at + 4].copy_from_slice(&spelled(entry));
 }
 
-/// What a row is read as, port by port.
+/// The pattern that a row shows, port by port.
 fn read_row(row: &[u8; 32]) -> LocalPattern
     ensures { result ≡ read_column (Some row.now) }
 {
@@ -69,7 +69,7 @@ impl LocalPattern {
         self.entries[usize::from(port)]
     }
 
-    /// What a port shows, and no request and no space for a number that is no port.
+    /// Like `entry`, but for any number: one that is no port shows no request and no space.
     #[tactic(auto, using(std::proofs::lemmas::List::get_or_past))]
     pub fn shown(&self, port: u8) -> Entry
         ensures { result ≡ slice_index_or self.now port quiet }
@@ -82,7 +82,7 @@ impl LocalPattern {
         }
     }
 
-    /// Changes what a port shows. An entry that is empty has a descriptor of zeros.
+    /// Changes what a port shows. An entry whose output is empty has a descriptor of zeros.
     pub fn set(&mut self, port: u8, entry: Entry)
         requires port { port < 8 }
         requires plain { IsPlain entry }
@@ -103,7 +103,8 @@ impl LocalPattern {
         bytes
     }
 
-    /// What a row, or none, is read as: an entry outside the grammar shows no request and no space.
+    /// The pattern that a row shows. An entry outside the grammar is read as no request and no space, and so are all entries
+    /// where no row came.
     #[tactic(auto, using(crate::proofs::Columns::read_absent))]
     pub fn read(cell: Option<&[u8; 32]>) -> LocalPattern
         ensures { result ≡ read_column (option_map (λ row. row.now) cell.entry) }

@@ -19,7 +19,7 @@ pub(crate) const QUIET: Entry = Entry {
     },
 };
 
-/// The four bytes of an entry that shows no descriptor where its output is empty.
+/// The four bytes of an entry. Where its output is empty its descriptor is zeros.
 pub(crate) fn spelled(entry: &Entry) -> [u8; 4]
     requires { IsPlain entry.now }
     ensures { result ≡ entry_bytes entry.now }
@@ -32,7 +32,7 @@ pub(crate) fn spelled(entry: &Entry) -> [u8; 4]
     ]
 }
 
-/// The entry that four bytes show, if any.
+/// The entry that four bytes show; None where they are outside the grammar.
 fn shown(flags: u8, dest: u8, class: u8, source: u8) -> Option<Entry>
     ensures found { IfSome result (λ e. Shows (flags ∷ dest ∷ class ∷ source ∷ []) e × IsPlain e) }
     ensures only { IsNone result → (e : Entry) → Shows (flags ∷ dest ∷ class ∷ source ∷ []) e → ⊥ }
@@ -52,7 +52,7 @@ fn shown(flags: u8, dest: u8, class: u8, source: u8) -> Option<Entry>
     })
 }
 
-/// What four bytes are read as: outside the grammar no request and no space.
+/// The entry that four bytes are read as: outside the grammar no request and no space.
 pub(crate) fn read(flags: u8, dest: u8, class: u8, source: u8) -> Entry
     ensures { result ≡ read_entry (flags ∷ dest ∷ class ∷ source ∷ []) }
 {

@@ -62,7 +62,7 @@ impl<const N: usize> SystemPattern<N> {
         self.columns[usize::from(proc.ne)].entry(proc.port)
     }
 
-    /// What a processor's port shows, and no request and no space for one that is not there.
+    /// Like `entry`, but for any processor: one that is not there shows no request and no space.
     #[tactic(auto, using(std::proofs::lemmas::List::get_or_past))]
     pub fn shown(&self, proc: Proc) -> Entry
         ensures { result ≡ entry_of self.now proc }

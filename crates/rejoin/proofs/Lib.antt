@@ -3,3 +3,5 @@ pub mod Walks
 pub mod Slots
 pub mod Spelled
 pub mod Rows
+pub mod Fields
+pub mod ByField

@@ -24,7 +24,7 @@ pub record IsWhole (pair : Group × StateRow) : Type 0 where
   pub group : length (group_bytes pair.0) ≡ 19
   pub row : length (row_bytes pair.1) ≡ 28
 
-length-slot : (pair : Group × StateRow) → IsWhole pair → length (slot_bytes pair) ≡ 47
+pub length-slot : (pair : Group × StateRow) → IsWhole pair → length (slot_bytes pair) ≡ 47
 unfolding slot_bytes
 length-slot pair whole = let group = whole.group in let row = whole.row in let both = length-append (group_bytes pair.0) (row_bytes pair.1) in omega arith
 
@@ -112,21 +112,21 @@ module _ (now : ℕ) (table : TableValue) (rows : List StateRow) (right : IsInRa
     there : get_or (zip table.groups rows) i d ≡ (get_or table.groups i d.0, get_or rows i d.1)
     there = get_or-zip table.groups rows i d in_groups (let same = right.one_each in let below = in_groups in omega arith)
 
-    bounded : IsBounded table.n (get_or (zip table.groups rows) i d).0
+    pub bounded : IsBounded table.n (get_or (zip table.groups rows) i d).0
     bounded =
         subst (IsBounded table.n) (sym (ap (λ (p : Group × StateRow). p.0) there))
         (All-get_or (IsBounded table.n) table.groups i d.0 in_groups (bounded-valid table right.valid))
 
-    fits : RowFits now (get_or (zip table.groups rows) i d)
+    pub fits : RowFits now (get_or (zip table.groups rows) i d)
     fits = All-get_or (RowFits now) (zip table.groups rows) i d h right.fit
 
-    whole_at : IsWhole (get_or (zip table.groups rows) i d)
+    pub whole_at : IsWhole (get_or (zip table.groups rows) i d)
     whole_at = record {
       group = length-group (get_or (zip table.groups rows) i d).0 bounded.few_members;
       row = length-row (get_or (zip table.groups rows) i d).1 fits.four;
     }
 
-  all_whole : AllByRecursion IsWhole (zip table.groups rows)
+  pub all_whole : AllByRecursion IsWhole (zip table.groups rows)
   all_whole = recursion_from_All IsWhole (zip table.groups rows) (λ i d h. whole_at i d h)
 
   -- the group and the row of a place

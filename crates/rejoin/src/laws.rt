@@ -1,4 +1,4 @@
-//! Laws of states as bytes, for the crates above. Nothing of this runs.
+//! Laws of states as bytes: the body of each function is empty, and its clauses are the law.
 
 ghost use Rattle.std.specs.Prelude.{◌≡◌, ◌≤◌, ℕ, List, map, All};
 ghost use Rattle.config_table.specs.declared.groups.Group.{Group};
@@ -6,6 +6,7 @@ ghost use Rattle.config_table.specs.declared.decisions.StateRow.{StateRow};
 ghost use Rattle.config_table.specs.Table.{TableValue, IsValid};
 ghost use Rattle.rejoin.specs.declared.AgreedState.{AgreedState};
 ghost use Rattle.rejoin.specs.State.{RequestFits, LagsFit, RowFits, IsInRange, IsState, state_bytes};
+ghost use Rattle.rejoin.specs.Grammar.{EncodedIsSpelled, StateIsSpelled};
 
 /// A state has one spelling, and bytes spell one state at most: what is read is encoded to the same bytes, and what
 /// was encoded is read back.
@@ -13,6 +14,13 @@ pub fn one_spelling()
     ensures bytes { (xs ys : List ℕ) (now : ℕ) (table : TableValue) (rows : List StateRow) → IsState xs now table rows → IsState ys now table rows → xs ≡ ys }
     ensures state { (xs : List ℕ) (s t : AgreedState) → IsState xs s.cycle s.table s.rows.items → IsState xs t.cycle t.table t.rows.items → s ≡ t }
     ensures spelled { (now : ℕ) (table : TableValue) (rows : List StateRow) → IsInRange now table rows → IsState (state_bytes now table rows) now table rows }
+{}
+
+/// Bytes are a state exactly where each of their fields is in the grammar, whose definition says field by field what the
+/// 1,887 bytes are; and what is encoded is in it.
+pub fn grammar_of_states()
+    ensures state { StateIsSpelled }
+    ensures encoded { EncodedIsSpelled }
 {}
 
 /// A valid table is a state with rows that are made of its groups, where each of them fits its group.

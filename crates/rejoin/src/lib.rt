@@ -1,7 +1,7 @@
 //! The agreed state at the beginning of a cycle as bytes, from which an element begins that rejoins.
 #![tactic(auto)]
 
-mod laws;
+pub mod laws;
 mod reading;
 #[cfg(test)]
 mod tests;
@@ -9,9 +9,14 @@ mod writing;
 
 use config_table::{StateRow, Table};
 use ftpp_base::Row;
-pub use laws::{made_of_groups, one_spelling, rows_of_groups};
 pub use reading::decode_state;
 pub use writing::encode_state;
+
+/// The bytes of a state.
+pub const STATE_BYTES: usize = 1887;
+
+/// The last cycle that a state can be of.
+pub(crate) const LAST_CYCLE: u32 = 100_000;
 
 /// What the elements agree on at the beginning of a cycle.
 #[derive(Drop)]

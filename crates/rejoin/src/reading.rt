@@ -1,6 +1,6 @@
-//! States from bytes.
+//! Reads a state.
 //!
-//! Bytes can be one state at most. It is taken from their places, and is theirs where it is written as they are.
+//! Bytes can be one state at most. It is read from their places; the bytes are a state where it is written as these bytes.
 
 ghost use Rattle.std.specs.Prelude.{◌≡◌, ◌+◌, ◌*◌, ◌<◌, ◌≤◌, ◌↔◌, length, min, map, slice_index, All, Some, IsSome, IfSome, IsTrue};
 ghost use Rattle.std.specs.List.{zip};
@@ -10,13 +10,14 @@ ghost use Rattle.rejoin.specs.declared.AgreedState.{AgreedState};
 ghost use Rattle.rejoin.specs.State.{RequestFits, RowFits, IsInRange, IsState};
 ghost use Rattle.rejoin.specs.Reading.{number_at, member_from, group_from, request_from, row_from, group_at, row_at, count_from, groups_from, rows_from, table_from};
 
-use crate::AgreedState;
 use crate::writing::written;
+use crate::{AgreedState, LAST_CYCLE, STATE_BYTES};
 use byteorder::{BigEndian, ByteOrder};
 use config_table::{Group, StateRow, Table};
 use ftpp_base::{Proc, Row, Set8};
 use packet_format::Descriptor;
 
+/// The number in two bytes from a place on.
 fn short(bytes: &[u8], at: usize) -> u16
     requires { at + 2 ≤ length bytes.now }
     ensures { result ≡ number_at bytes.now at (at + 2) }
@@ -24,6 +25,7 @@ fn short(bytes: &[u8], at: usize) -> u16
     BigEndian::read_u16(&bytes[at..at + 2])
 }
 
+/// The number in four bytes from a place on.
 fn long(bytes: &[u8], at: usize) -> u32
     requires { at + 4 ≤ length bytes.now }
     ensures { result ≡ number_at bytes.now at (at + 4) }
@@ -31,7 +33,7 @@ fn long(bytes: &[u8], at: usize) -> u32
     BigEndian::read_u32(&bytes[at..at + 4])
 }
 
-/// The members in the bytes of a group: as many as it says, and at most four.
+/// The members in the bytes of a group: as many as the size byte says, and at most four.
 fn members_in(bytes: &[u8]) -> Row<Proc, 4>
     requires { length bytes.now ≡ 19 }
     ensures { result.items ≡ each_below (min (slice_index bytes.now 1) 4) (member_from bytes.now) }
@@ -46,6 +48,7 @@ fn members_in(bytes: &[u8]) -> Row<Proc, 4>
     members
 }
 
+/// The group in its 19 bytes.
 #[tactic(auto, unfolding(crate::specs::Reading::group_from))]
 fn group_in(bytes: &[u8]) -> Group
     requires { length bytes.now ≡ 19 }
@@ -63,6 +66,7 @@ fn group_in(bytes: &[u8]) -> Group
     }
 }
 
+/// The request in the 28 bytes of a row, if there is one.
 #[tactic(auto, unfolding(crate::specs::Reading::request_from))]
 fn request_in(bytes: &[u8]) -> Option<(Descriptor, u32, u32)>
     requires { length bytes.now ≡ 28 }
@@ -79,6 +83,7 @@ fn request_in(bytes: &[u8]) -> Option<(Descriptor, u32, u32)>
     Some((desc, long(bytes, 4), long(bytes, 8)))
 }
 
+/// The row of a group in its 28 bytes.
 #[tactic(auto, unfolding(crate::specs::Reading::row_from))]
 fn row_in(vid: u8, bytes: &[u8]) -> StateRow
     requires { length bytes.now ≡ 28 }
@@ -97,7 +102,7 @@ fn row_in(vid: u8, bytes: &[u8]) -> StateRow
 }
 
 /// The group of an index.
-fn group_at(bytes: &[u8; 1887], i: usize) -> Group
+fn group_at(bytes: &[u8; STATE_BYTES], i: usize) -> Group
     requires { i < 40 }
     ensures { result ≡ group_at bytes.now i }
 {
@@ -105,22 +110,23 @@ fn group_at(bytes: &[u8; 1887], i: usize) -> Group
 }
 
 /// The row of the group of an index.
-fn row_at(bytes: &[u8; 1887], i: usize) -> StateRow
+fn row_at(bytes: &[u8; STATE_BYTES], i: usize) -> StateRow
     requires { i < 40 }
     ensures { result ≡ row_at bytes.now i }
 {
     row_in(bytes[7 + 47 * i], &bytes[26 + 47 * i..54 + 47 * i])
 }
 
-/// How many groups there are: as many as the bytes say, and at most 40.
-fn count_in(bytes: &[u8; 1887]) -> usize
+/// How many groups there are: as many as byte 6 says, and at most 40.
+fn count_in(bytes: &[u8; STATE_BYTES]) -> usize
     ensures count { result ≡ count_from bytes.now }
     ensures few { result ≤ 40 }
 {
     usize::from(bytes[6]).min(40)
 }
 
-fn groups_in(bytes: &[u8; 1887]) -> Row<Group, 40>
+/// The groups, in order.
+fn groups_in(bytes: &[u8; STATE_BYTES]) -> Row<Group, 40>
     ensures { result.items ≡ groups_from bytes.now }
 {
     let mut groups = Row::new();
@@ -130,7 +136,8 @@ fn groups_in(bytes: &[u8; 1887]) -> Row<Group, 40>
     groups
 }
 
-fn rows_in(bytes: &[u8; 1887]) -> Row<StateRow, 40>
+/// The rows of the groups, in order.
+fn rows_in(bytes: &[u8; STATE_BYTES]) -> Row<StateRow, 40>
     ensures { result.items ≡ rows_from bytes.now }
 {
     let mut rows = Row::new();
@@ -141,9 +148,10 @@ fn rows_in(bytes: &[u8; 1887]) -> Row<StateRow, 40>
 }
 
 /// The only state that the bytes can be; None where its table is not valid.
-fn only_state(bytes: &[u8; 1887]) -> Option<AgreedState>
+fn only_state(bytes: &[u8; STATE_BYTES]) -> Option<AgreedState>
     ensures found { IfSome result (λ s. (s.cycle ≡ number_at bytes.now 0 4) × (s.table ≡ table_from bytes.now) × (s.rows.items ≡ rows_from bytes.now)) }
     ensures valid { IsValid (table_from bytes.now) → IsSome result }
+    ensures table { IfSome result (λ s. IsValid s.table) }
 {
     let groups = groups_in(bytes);
     match Table::new(bytes[4], bytes[5], groups.as_slice()) {
@@ -156,7 +164,7 @@ fn only_state(bytes: &[u8; 1887]) -> Option<AgreedState>
     }
 }
 
-/// Whether a request stands since an earlier cycle, and did not starve in more cycles than there were.
+/// Whether a request was first made in an earlier cycle and lacked space in no more cycles than there were.
 fn request_fits(cycle: u32, request: &Option<(Descriptor, u32, u32)>) -> bool
     ensures { IsTrue result ↔ RequestFits cycle request.now }
 {
@@ -166,8 +174,8 @@ fn request_fits(cycle: u32, request: &Option<(Descriptor, u32, u32)>) -> bool
     }
 }
 
+/// Whether a row is one of its group at the beginning of a cycle.
 fn row_fits(cycle: u32, g: &Group, row: &StateRow) -> bool
-    requires { length g.now.members.items ≤ 4 }
     ensures { IsTrue result ↔ RowFits cycle (g.now, row.now) }
 {
     row.vid == g.vid
@@ -176,6 +184,7 @@ fn row_fits(cycle: u32, g: &Group, row: &StateRow) -> bool
         && row.lags[g.members.len()..].iter().all(|lag| *lag == 0)
 }
 
+/// Whether each row fits its group.
 fn rows_fit(cycle: u32, table: &Table, rows: &[StateRow]) -> bool
     requires { length rows.now ≡ length table.now.groups }
     ensures { IsTrue result ↔ All (RowFits cycle) (zip table.now.groups rows.now) }
@@ -191,16 +200,16 @@ fn rows_fit(cycle: u32, table: &Table, rows: &[StateRow]) -> bool
 
 /// Whether all numbers of a state are in their ranges.
 fn is_in_range(s: &AgreedState) -> bool
-    requires { length s.now.rows.items ≡ length s.now.table.groups }
+    requires one_each { length s.now.rows.items ≡ length s.now.table.groups }
+    requires valid { IsValid s.now.table }
     ensures { IsTrue result ↔ IsInRange s.now.cycle s.now.table s.now.rows.items }
 {
-    let _n = s.table.n();
-    s.cycle <= 100_000 && rows_fit(s.cycle, &s.table, s.rows.as_slice())
+    s.cycle <= LAST_CYCLE && rows_fit(s.cycle, &s.table, s.rows.as_slice())
 }
 
-/// The state that the bytes are, and None exactly where they are none: where their table is not valid, a number
-/// is out of its range, or a byte that stands for nothing is not 0. It takes no memory.
-pub fn decode_state(bytes: &[u8; 1887]) -> Option<AgreedState>
+/// The state that the bytes are; None exactly for bytes that are no state: where their table is not valid, a number
+/// is out of its range, or a byte that no field uses is not 0. It takes no memory.
+pub fn decode_state(bytes: &[u8; STATE_BYTES]) -> Option<AgreedState>
     ensures found { IfSome result (λ s. IsState bytes.now s.cycle s.table s.rows.items) }
     ensures only { (s : AgreedState) → IsState bytes.now s.cycle s.table s.rows.items → result ≡ Some s }
 {

@@ -1,4 +1,4 @@
-use crate::{decode_state, encode_state};
+use crate::{STATE_BYTES, decode_state, encode_state};
 use ftpp_base::{Proc, Set8};
 use packet_format::Descriptor;
 use std::test::Fail;
@@ -59,8 +59,8 @@ static CHANGES: [(usize, u8); 29] = [
 ];
 
 /// The bytes of a state, the first of which are given.
-fn filled(front: &[u8]) -> [u8; 1887] {
-    let mut bytes = [0; 1887];
+fn filled(front: &[u8]) -> [u8; STATE_BYTES] {
+    let mut bytes = [0; STATE_BYTES];
     for (byte, given) in bytes.iter_mut().zip(front) {
         *byte = *given;
     }

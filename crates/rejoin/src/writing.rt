@@ -1,4 +1,4 @@
-//! Bytes from states.
+//! Writes a state.
 
 ghost use Rattle.std.specs.Prelude.{◌≡◌, ◌+◌, ◌*◌, ◌≤◌, ◌∷◌, [], ◌++◌, length, drop};
 ghost use Rattle.std.specs.List.{flat_map};
@@ -6,15 +6,16 @@ ghost use Rattle.packet_format.specs.Numbers.{two_bytes, four_bytes};
 ghost use Rattle.packet_format.specs.Packets.{filled_up};
 ghost use Rattle.rejoin.specs.State.{IsInRange, member_bytes, group_bytes, request_bytes, row_bytes, slot_bytes, slots_bytes, state_bytes};
 
-use crate::AgreedState;
+use crate::{AgreedState, STATE_BYTES};
 use byteorder::{BigEndian, ByteOrder};
 use config_table::{Group, StateRow, Table};
 use ftpp_base::{Proc, Row};
 use packet_format::Descriptor;
 
 /// The bytes so far.
-type StateBuf = Row<u8, 1887>;
+type StateBuf = Row<u8, STATE_BYTES>;
 
+/// A number as two bytes.
 fn two(n: u16) -> [u8; 2]
     ensures { result ≡ two_bytes n }
 {
@@ -23,6 +24,7 @@ fn two(n: u16) -> [u8; 2]
     bytes
 }
 
+/// A number as four bytes.
 fn four(n: u32) -> [u8; 4]
     ensures { result ≡ four_bytes n }
 {
@@ -31,18 +33,19 @@ fn four(n: u32) -> [u8; 4]
     bytes
 }
 
+/// Appends bytes.
 fn append(out: &mut StateBuf, bytes: &[u8])
-    requires { length out.old.items + length bytes.now ≤ 1887 }
+    requires { length out.old.items + length bytes.now ≤ STATE_BYTES }
     ensures items { out.new.items ≡ out.old.items ++ bytes.now }
     ensures len { length out.new.items ≡ length out.old.items + length bytes.now }
 {
     out.try_extend_from_slice(bytes).unwrap();
 }
 
-/// The pairs of the members, and zeros up to four pairs.
+/// Appends a pair of element and port for each member, and zeros up to four pairs.
 fn put_members(out: &mut StateBuf, members: &[Proc])
     requires few { length members.now ≤ 4 }
-    requires room { length out.old.items + 8 ≤ 1887 }
+    requires room { length out.old.items + 8 ≤ STATE_BYTES }
     ensures items { out.new.items ≡ out.old.items ++ filled_up 8 (flat_map member_bytes members.now) }
     ensures len { length out.new.items ≡ length out.old.items + 8 }
 {
@@ -53,10 +56,11 @@ fn put_members(out: &mut StateBuf, members: &[Proc])
     append(out, &[0; 8][..missing]);
 }
 
+/// Appends a group.
 #[tactic(auto, using(crate::proofs::Pieces::group_pieces))]
 fn put_group(out: &mut StateBuf, g: &Group)
     requires few { length g.now.members.items ≤ 4 }
-    requires room { length out.old.items + 19 ≤ 1887 }
+    requires room { length out.old.items + 19 ≤ STATE_BYTES }
     ensures items { out.new.items ≡ out.old.items ++ group_bytes g.now }
     ensures len { length out.new.items ≡ length out.old.items + 19 }
 {
@@ -69,9 +73,10 @@ fn put_group(out: &mut StateBuf, g: &Group)
     append(out, &[g.outs, g.ins]);
 }
 
+/// Appends a request, or zeros where there is none.
 #[tactic(auto, using(crate::proofs::Pieces::request_pieces))]
 fn put_request(out: &mut StateBuf, request: &Option<(Descriptor, u32, u32)>)
-    requires { length out.old.items + 12 ≤ 1887 }
+    requires { length out.old.items + 12 ≤ STATE_BYTES }
     ensures items { out.new.items ≡ out.old.items ++ request_bytes request.now }
     ensures len { length out.new.items ≡ length out.old.items + 12 }
 {
@@ -85,9 +90,10 @@ fn put_request(out: &mut StateBuf, request: &Option<(Descriptor, u32, u32)>)
     }
 }
 
+/// Appends a row: its request and its lags.
 #[tactic(auto, using(crate::proofs::Pieces::row_pieces))]
 fn put_row(out: &mut StateBuf, row: &StateRow)
-    requires { length out.old.items + 28 ≤ 1887 }
+    requires { length out.old.items + 28 ≤ STATE_BYTES }
     ensures items { out.new.items ≡ out.old.items ++ row_bytes row.now }
     ensures len { length out.new.items ≡ length out.old.items + 28 }
 {
@@ -97,10 +103,11 @@ fn put_row(out: &mut StateBuf, row: &StateRow)
     }
 }
 
+/// Appends a group and its row.
 #[tactic(auto, using(crate::proofs::Pieces::slot_pieces))]
 fn put_slot(out: &mut StateBuf, g: &Group, row: &StateRow)
     requires few { length g.now.members.items ≤ 4 }
-    requires room { length out.old.items + 47 ≤ 1887 }
+    requires room { length out.old.items + 47 ≤ STATE_BYTES }
     ensures items { out.new.items ≡ out.old.items ++ slot_bytes (g.now, row.now) }
     ensures len { length out.new.items ≡ length out.old.items + 47 }
 {
@@ -108,12 +115,12 @@ fn put_slot(out: &mut StateBuf, g: &Group, row: &StateRow)
     put_row(out, row);
 }
 
-/// All slots, a group and its row each.
+/// Appends all groups, each with its row.
 fn put_slots(out: &mut StateBuf, table: &Table, rows: &[StateRow])
     requires one_each { length rows.now ≡ length table.now.groups }
     requires head { length out.old.items ≡ 7 }
     ensures items { out.new.items ≡ out.old.items ++ slots_bytes table.now.groups rows.now }
-    ensures len { length out.new.items ≤ 1887 }
+    ensures len { length out.new.items ≤ STATE_BYTES }
 {
     let groups = table.groups();
     for i in 0..groups.len() {
@@ -122,25 +129,25 @@ fn put_slots(out: &mut StateBuf, table: &Table, rows: &[StateRow])
 }
 
 /// Puts a text at the front of a buffer.
-fn put_front(bytes: &mut [u8; 1887], text: &[u8])
-    requires { length text.now ≤ 1887 }
+fn put_front(bytes: &mut [u8; STATE_BYTES], text: &[u8])
+    requires { length text.now ≤ STATE_BYTES }
     ensures { bytes.new ≡ text.now ++ drop (length text.now) bytes.old }
 {
     bytes[..text.len()].copy_from_slice(text);
 }
 
 /// The bytes so far, and zeros behind them.
-fn whole(out: &StateBuf) -> [u8; 1887]
-    ensures { result ≡ filled_up 1887 out.now.items }
+fn whole(out: &StateBuf) -> [u8; STATE_BYTES]
+    ensures { result ≡ filled_up STATE_BYTES out.now.items }
 {
-    let mut bytes = [0; 1887];
+    let mut bytes = [0; STATE_BYTES];
     put_front(&mut bytes, out.as_slice());
     bytes
 }
 
 /// The bytes of a state, whatever its numbers are.
 #[tactic(auto, unfolding(crate::specs::State::state_bytes))]
-pub(crate) fn written(s: &AgreedState) -> [u8; 1887]
+pub(crate) fn written(s: &AgreedState) -> [u8; STATE_BYTES]
     requires { length s.now.rows.items ≡ length s.now.table.groups }
     ensures { result ≡ state_bytes s.now.cycle s.now.table s.now.rows.items }
 {
@@ -154,9 +161,9 @@ pub(crate) fn written(s: &AgreedState) -> [u8; 1887]
     whole(&out)
 }
 
-/// The bytes of a state: the cycle, the table, and for each group what the scoreboard keeps of it. Since when its
-/// request stands is before the cycle, and the other numbers of cycles are at most the cycle. It takes no memory.
-pub fn encode_state(s: &AgreedState) -> [u8; 1887]
+/// The bytes of a state: the cycle, the table, and for each group what the scoreboard keeps of it. A request is of an
+/// earlier cycle, and the other numbers of cycles are at most the cycle. It takes no memory.
+pub fn encode_state(s: &AgreedState) -> [u8; STATE_BYTES]
     requires { IsInRange s.now.cycle s.now.table s.now.rows.items }
     ensures { result ≡ state_bytes s.now.cycle s.now.table s.now.rows.items }
 {

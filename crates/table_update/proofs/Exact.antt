@@ -7,11 +7,17 @@ use lib.Pointwise.{bytes_decides}
 use Rattle.ftpp_base.specs.declared.element.Proc.{Proc}
 use Rattle.packet_format.specs.Numbers.{AreBytes, two_bytes, number_from}
 use Rattle.packet_format.specs.Packets.{same_bytes}
+use Rattle.packet_format.specs.declared.Packet.{Packet}
 use Rattle.table_update.specs.declared.Update.{Update}
 use Rattle.table_update.specs.declared.Update.TheVariants.{Mask, Admit, Timeouts, Dissolve, Form}
-use Rattle.table_update.specs.Updates.{update_bytes, update_from, has_index, if_spelled, members_from}
-use Rattle.table_update.specs.Grammar.{IsInRange, IsSpelled, EachSpelledIsRead, EachReadIsSpelled}
+use Rattle.table_update.specs.Updates.{update_bytes, update_from, has_index, if_spelled, members_from, read_update}
+use Rattle.table_update.specs.Grammar.{IsInRange}
 use Rattle.table_update.proofs.Spelled.{items, take-items, timeouts_from, form_from, length-members}
+
+-- These bytes are those of that update, one after another.
+pub record IsWritten (bytes : List ℕ) (update : Update) : Type 0 where
+  pub in_range : IsInRange update
+  pub spelled : bytes ≡ update_bytes update
 
 -- ---- each update is read back from its bytes
 
@@ -47,8 +53,8 @@ index_in_range (Form vid members ts tr) small = refl
 same-refl : (bytes : List ℕ) → same_bytes bytes bytes ≡ true
 same-refl bytes = (bytes_decides bytes bytes).1 refl
 
-pub spelled_read : EachSpelledIsRead
-spelled_read packet update h =
+pub written_read : (packet : Packet) (update : Update) → IsWritten packet.bytes update → read_update packet ≡ Some update
+written_read packet update h =
     ap (λ bytes. if_spelled bytes (update_from bytes)) h.spelled
     ∙ ap (if_spelled (update_bytes update)) (update_back update h.in_range)
     ∙ ap (λ b. cond (b && has_index update) (Some update) None) (same-refl (update_bytes update))
@@ -57,7 +63,7 @@ spelled_read packet update h =
 -- ---- what is read is in range
 
 -- two bytes make a small number
-two_small : (bytes : List ℕ) (i : ℕ) → AreBytes bytes → i + 2 ≤ length bytes → number_from (take 2 (drop i bytes)) < 2 ^ 16
+pub two_small : (bytes : List ℕ) (i : ℕ) → AreBytes bytes → i + 2 ≤ length bytes → number_from (take 2 (drop i bytes)) < 2 ^ 16
 two_small bytes i are fits =
     let first = are i in
     let second = are (i + 1) in
@@ -101,19 +107,19 @@ taken : (b : Bool) (v u : Update) → cond b (Some v) None ≡ Some u → (b ≡
 taken true v u e = (refl, cc)
 taken false v u e = cc
 
-spelled_by_update : (bytes : List ℕ) (u v : Update) → length bytes ≡ 64 → AreBytes bytes → update_from bytes ≡ Some v → if_spelled bytes (Some v) ≡ Some u → IsSpelled bytes u
+spelled_by_update : (bytes : List ℕ) (u v : Update) → length bytes ≡ 64 → AreBytes bytes → update_from bytes ≡ Some v → if_spelled bytes (Some v) ≡ Some u → IsWritten bytes u
 spelled_by_update bytes u v long are from e =
     let passed = taken (same_bytes bytes (update_bytes v) && has_index v) v u e in
     let both = and_parts (same_bytes bytes (update_bytes v)) (has_index v) passed.0 in
-    let v_spelled : IsSpelled bytes v = record {
+    let v_spelled : IsWritten bytes v = record {
       in_range = in_range_from bytes v long are both.1 from;
       spelled = (bytes_decides bytes (update_bytes v)).0 both.0;
     } in
-    subst (IsSpelled bytes) passed.1 v_spelled
+    subst (IsWritten bytes) passed.1 v_spelled
 
-spelled_where : (bytes : List ℕ) (u : Update) (o : Option Update) → length bytes ≡ 64 → AreBytes bytes → update_from bytes ≡ o → if_spelled bytes o ≡ Some u → IsSpelled bytes u
+spelled_where : (bytes : List ℕ) (u : Update) (o : Option Update) → length bytes ≡ 64 → AreBytes bytes → update_from bytes ≡ o → if_spelled bytes o ≡ Some u → IsWritten bytes u
 spelled_where bytes u None long are from e = cc
 spelled_where bytes u (Some v) long are from e = spelled_by_update bytes u v long are from e
 
-pub read_spelled : EachReadIsSpelled
-read_spelled packet update long are e = spelled_where packet.bytes update (update_from packet.bytes) long are refl e
+pub read_written : (packet : Packet) (update : Update) → length packet.bytes ≡ 64 → AreBytes packet.bytes → read_update packet ≡ Some update → IsWritten packet.bytes update
+read_written packet update long are e = spelled_where packet.bytes update (update_from packet.bytes) long are refl e

@@ -56,7 +56,7 @@ take-items bytes (suc n) i fits =
     ∙ ap (λ l. slice_index bytes i ∷ l) (take-items bytes n (i + 1) (omega arith))
 
 -- two bytes from a place on are those of the number that they are
-two_at : (bytes : List ℕ) (i : ℕ) → AreBytes bytes → i + 2 ≤ length bytes → two_bytes (number_from (take 2 (drop i bytes))) ≡ slice_index bytes i ∷ slice_index bytes (i + 1) ∷ []
+pub two_at : (bytes : List ℕ) (i : ℕ) → AreBytes bytes → i + 2 ≤ length bytes → two_bytes (number_from (take 2 (drop i bytes))) ≡ slice_index bytes i ∷ slice_index bytes (i + 1) ∷ []
 two_at bytes i are fits =
     ap (λ l. two_bytes (number_from l)) (take-items bytes 2 i fits)
     ∙ two_back (items bytes i 2) refl (λ k. at k)
@@ -139,7 +139,7 @@ pairs_from bytes (suc n) a fits =
     ∙ sym (two_more bytes (2 * n) (7 + 2 * a) (omega arith))
     ∙ ap (λ m. take m (drop (7 + 2 * a) bytes)) both
 
-length-pairs : (procs : List Proc) → length (flat_map proc_bytes procs) ≡ 2 * length procs
+pub length-pairs : (procs : List Proc) → length (flat_map proc_bytes procs) ≡ 2 * length procs
 length-pairs [] = refl
 length-pairs (p ∷ ps) = let more = length-pairs ps in omega arith
 

@@ -1,7 +1,7 @@
 //! Applies an update to a table.
 
 ghost use Rattle.std.specs.Prelude.{◌≡◌, ◌<◌, ◌≤◌, length, true, None, Some, MatchOption};
-ghost use Rattle.config_table.specs.Table.{group_named};
+ghost use Rattle.config_table.specs.Table.{IsValid, group_named};
 ghost use Rattle.table_update.specs.Updates.{formed, has_member, all_members, member_of_index, ports_to_clear, updated, applied, table_after};
 
 use crate::changes::{Groups, changed, with_formed, without};
@@ -15,11 +15,13 @@ use ftpp_base::{Proc, Row, Set8};
 pub fn apply(table: &mut Table, update: &Update) -> Applied
     ensures answer { result ≡ applied table.old update.now }
     ensures table { table.new ≡ table_after table.old update.now }
+    ensures valid { IsValid table.old }
 {
+    let (n, manager) = (table.n(), table.manager());
     let Some(groups) = updated_groups(table, update) else {
         return Applied::Absent;
     };
-    match Table::new(table.n(), table.manager(), groups.as_slice()) {
+    match Table::new(n, manager, groups.as_slice()) {
         Err(error) => Applied::Refused(error),
         Ok(new) => {
             let ports = ports_to_clear(table, update);

@@ -1,4 +1,4 @@
-//! The groups of a table with one of them changed, gone or new.
+//! The groups of a table after an update: one of them is changed, gone or new.
 
 ghost use Rattle.std.specs.Prelude.{◌≡◌, ◌+◌, ◌<◌, ◌≤◌, ◌++◌, length, insert, true, ◌==◌, if◌then◌else◌};
 ghost use Rattle.arrayvec.specs.ArrayVec.{array_vec_len};
@@ -10,13 +10,13 @@ use crate::Update;
 use config_table::Group;
 use ftpp_base::{Row, Set8};
 
-/// As many groups as a table may have, and one more, which it is refused for.
-pub(crate) const MOST_GROUPS: usize = 41;
+/// Room for the 40 groups that a table can have, and for one more: a table with that one is refused.
+pub(crate) const ROOM_FOR_GROUPS: usize = 41;
 
-/// Groups on their way to a table.
-pub(crate) type Groups = Row<Group, MOST_GROUPS>;
+/// The groups of a table that is not checked yet.
+pub(crate) type Groups = Row<Group, ROOM_FOR_GROUPS>;
 
-/// The groups with those of the number changed by an update.
+/// The groups, the one of this number as the update changes it.
 pub(crate) fn changed(groups: &[Group], vid: u8, update: &Update) -> Groups
     requires few { length groups.now ≤ 40 }
     requires index { has_index update.now ≡ true }
@@ -29,7 +29,7 @@ pub(crate) fn changed(groups: &[Group], vid: u8, update: &Update) -> Groups
     row
 }
 
-/// A group as an update of the group with this number leaves it.
+/// A copy of a group, changed if it has this number.
 fn changed_if_named(group: &Group, vid: u8, update: &Update) -> Group
     requires { has_index update.now ≡ true }
     ensures { result ≡ (if group.now.vid == vid then change_of update.now group.now else group.now) }
@@ -41,7 +41,7 @@ fn changed_if_named(group: &Group, vid: u8, update: &Update) -> Group
     }
 }
 
-/// A group as an update of it leaves it.
+/// A copy of a group with the change that the update names.
 fn changed_group(group: &Group, update: &Update) -> Group
     requires { has_index update.now ≡ true }
     ensures { result ≡ change_of update.now group.now }
@@ -59,7 +59,7 @@ fn changed_group(group: &Group, update: &Update) -> Group
     changed
 }
 
-/// The set of a byte, with one number less.
+/// The set of a byte without a number.
 fn without_bit(bits: u8, i: u8) -> Set8
     requires { i < 8 }
     ensures { result ≡ without_number (record { bits = bits }) i }
@@ -69,7 +69,7 @@ fn without_bit(bits: u8, i: u8) -> Set8
     }
 }
 
-/// The groups but those of the number.
+/// The groups without the one of this number.
 pub(crate) fn without(groups: &[Group], vid: u8) -> Groups
     requires { length groups.now ≤ 40 }
     ensures { result.items ≡ without_group vid groups.now }
@@ -83,7 +83,7 @@ pub(crate) fn without(groups: &[Group], vid: u8) -> Groups
     row
 }
 
-/// The groups with one more at its place: before the first of a greater number.
+/// The groups with a new one before the first that has a greater number.
 pub(crate) fn with_formed(groups: &[Group], new: Group) -> Groups
     requires { length groups.now ≤ 40 }
     ensures { result.items ≡ with_formed new groups.now }
@@ -111,7 +111,7 @@ fn place_of(groups: &[Group], new: &Group) -> usize
 
 /// Appends copies of the groups.
 fn push_copies(row: &mut Groups, groups: &[Group])
-    requires { array_vec_len row.old + length groups.now ≤ MOST_GROUPS }
+    requires { array_vec_len row.old + length groups.now ≤ ROOM_FOR_GROUPS }
     ensures { row.new.items ≡ row.old.items ++ groups.now }
 {
     for group in groups {

@@ -13,8 +13,8 @@ use packet_format::Packet;
 /// The most members of a group.
 const MOST_MEMBERS: u8 = 4;
 
-/// The update that a packet is. None exactly where the packet is none: where it begins with no form, where a member
-/// index or a size is out of range, and where a byte that the form does not name is not 0.
+/// The update that a packet spells; None exactly where it spells none: where byte 0 is not 1 to 5, where a member index or
+/// a size is out of range, and where a byte that the form does not name is not 0.
 #[tactic(auto, unfolding(crate::specs::Updates::update_from))]
 pub fn read_update(packet: &Packet) -> Option<Update>
     ensures { result ≡ read_update packet.now }

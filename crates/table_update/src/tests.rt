@@ -13,41 +13,17 @@ fn packet(start: &[u8]) -> Packet {
     Packet { bytes }
 }
 
-/// A group of these processors with the usual numbers.
-fn group(vid: u8, members: &[(u8, u8)]) -> Group {
-    let mut row = Row::new();
-    for (ne, port) in members {
-        let proc = Proc {
-            ne: *ne,
-            port: *port,
-        };
-        if !row.is_full() {
-            row.push(proc);
-        }
-    }
-    Group {
-        vid,
-        members: row,
-        masked: Set8::default(),
-        ts: 3,
-        tr: 2,
-        tx: 0,
-        outs: 16,
-        ins: 32,
-    }
-}
-
 /// The built-in table of four elements.
 fn four_elements() -> Result<Table, ConfigError> {
     Table::new(
         4,
         1,
         &[
-            group(1, &[(0, 0), (1, 0), (2, 0), (3, 0)]),
-            group(2, &[(0, 1), (1, 1), (2, 1)]),
-            group(3, &[(1, 2), (2, 2), (3, 2)]),
-            group(4, &[(3, 1)]),
-            group(5, &[(0, 3)]),
+            Group::usual(1, &[(0, 0), (1, 0), (2, 0), (3, 0)]),
+            Group::usual(2, &[(0, 1), (1, 1), (2, 1)]),
+            Group::usual(3, &[(1, 2), (2, 2), (3, 2)]),
+            Group::usual(4, &[(3, 1)]),
+            Group::usual(5, &[(0, 3)]),
         ],
     )
 }
@@ -129,22 +105,22 @@ fn changes_what_is_named(rt: HostRuntime) -> Result<(), Fail> {
         let update = read_update(&packet(&bytes)).ok_or("an update")?;
         assert_eq!(rt; outcome(&apply(&mut table, &update)), 0);
     }
-    let mut third = group(3, &[(1, 2), (2, 2), (3, 2)]);
+    let mut third = Group::usual(3, &[(1, 2), (2, 2), (3, 2)]);
     third.masked = Set8 { bits: 4 };
     third.ts = 1000;
     third.tr = 1;
-    let mut fourth = group(4, &[(3, 5)]);
+    let mut fourth = Group::usual(4, &[(3, 5)]);
     fourth.ts = 7;
     fourth.tr = 8;
     let wanted = Table::new(
         4,
         1,
         &[
-            group(1, &[(0, 0), (1, 0), (2, 0), (3, 0)]),
-            group(2, &[(0, 1), (1, 1), (2, 1)]),
+            Group::usual(1, &[(0, 0), (1, 0), (2, 0), (3, 0)]),
+            Group::usual(2, &[(0, 1), (1, 1), (2, 1)]),
             third,
             fourth,
-            group(5, &[(0, 3)]),
+            Group::usual(5, &[(0, 3)]),
         ],
     )?;
     assert!(rt; table.same_table(&wanted));

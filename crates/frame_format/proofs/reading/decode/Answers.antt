@@ -1,6 +1,7 @@
 use Rattle.std.proofs.Common.{sym, None}
 use Rattle.std.proofs.lemmas.List.{take_rest}
 use Rattle.frame_format.proofs.Calls.{count_all, headed, not_headed, heard_all}
+use Rattle.frame_format.proofs.ByField.{grammar_all}
 use Rattle.frame_format.proofs.reading.decode.Goals as goal
 
 pub returns-then-is_headed-clause-decoded : goal.returns-then-is_headed-clause-decoded
@@ -22,3 +23,11 @@ returns-else-is_headed-clause-decoded g c =
 pub returns-else-is_headed-clause-heard : goal.returns-else-is_headed-clause-heard
 returns-else-is_headed-clause-heard g c =
     heard_all g.row.N c.args.slot c.args.sender c.args.bytes.now None c.requires.round (returns-else-is_headed-clause-decoded g c)
+
+pub returns-then-is_headed-clause-grammar : goal.returns-then-is_headed-clause-grammar
+returns-then-is_headed-clause-grammar g c =
+    grammar_all g.row.N c.args.slot c.args.sender c.args.bytes.now c.read_cells.result (returns-then-is_headed-clause-decoded g c)
+
+pub returns-else-is_headed-clause-grammar : goal.returns-else-is_headed-clause-grammar
+returns-else-is_headed-clause-grammar g c =
+    grammar_all g.row.N c.args.slot c.args.sender c.args.bytes.now None (returns-else-is_headed-clause-decoded g c)

@@ -3,6 +3,7 @@ use Rattle.std.specs.Prelude.{option_map}
 use Rattle.std.proofs.lemmas.List.{take_rest}
 use Rattle.frame_format.specs.Frames.{first_cell}
 use Rattle.frame_format.proofs.Calls.{count_one, headed_one, not_headed, heard_one}
+use Rattle.frame_format.proofs.ByField.{grammar_one}
 use Rattle.frame_format.proofs.reading.decode_one.Goals as goal
 
 pub returns-then-is_headed-clause-decoded : goal.returns-then-is_headed-clause-decoded
@@ -23,3 +24,11 @@ returns-else-is_headed-clause-decoded g c n =
 pub returns-else-is_headed-clause-heard : goal.returns-else-is_headed-clause-heard
 returns-else-is_headed-clause-heard g c n =
     heard_one n c.args.slot c.args.sender c.args.bytes.now None c.requires.round (returns-else-is_headed-clause-decoded g c n)
+
+pub returns-then-is_headed-clause-grammar : goal.returns-then-is_headed-clause-grammar
+returns-then-is_headed-clause-grammar g c n =
+    grammar_one n c.args.slot c.args.sender c.args.bytes.now c.read_cell.result (returns-then-is_headed-clause-decoded g c n)
+
+pub returns-else-is_headed-clause-grammar : goal.returns-else-is_headed-clause-grammar
+returns-else-is_headed-clause-grammar g c n =
+    grammar_one n c.args.slot c.args.sender c.args.bytes.now None (returns-else-is_headed-clause-decoded g c n)
