@@ -7,12 +7,12 @@ use Rattle.std.proofs.lemmas.Bool.{ltb-true, leb-true, and_parts}
 use Rattle.std.proofs.lemmas.List.Elements.{All-from_recursion, All-contains}
 use Rattle.ftpp_base.specs.declared.element.Proc.{Proc}
 use Rattle.ftpp_base.specs.Lists.{is_in}
-use Rattle.ftpp_base.proofs.Among.{weaker}
+use Rattle.ftpp_base.proofs.Among.{weaker, find-passes}
 use Rattle.config_table.specs.declared.groups.Group.{Group}
 use Rattle.config_table.specs.declared.errors.ConfigError.TheVariants.{GroupCount, Vid, Size, MemberRange, Masked, Timeout, Expiry, Slots}
-use Rattle.config_table.specs.Groups.{members_of, live_count}
+use Rattle.config_table.specs.Groups.{members_of, live_count, is_member}
 use Rattle.config_table.specs.Bounds.{InRange, IsBounded}
-use Rattle.config_table.specs.Table.{TableValue, IsValid, is_within, is_in_range, first_failing, group_errors, group_error, groups_error, group_named}
+use Rattle.config_table.specs.Table.{TableValue, IsValid, is_within, is_in_range, first_failing, group_errors, group_error, groups_error, group_named, group_with}
 use Rattle.config_table.proofs.ValidTable.{none_first, none_rest, no_error, passed, unmapped, not_failing, few, valid_tests, named-there}
 
 -- what a test of a range says
@@ -96,6 +96,12 @@ bounded-named table vid g valid named = All-contains (IsBounded table.n) table.g
 pub bounded_found : (table : TableValue) (vid : ℕ) (found : Option (Bor Group)) → IsValid table → option_copied found ≡ group_named table vid → IfSome found (λ g. IsBounded table.n g.now)
 bounded_found table vid None valid is = tt
 bounded_found table vid (Some g) valid is = bounded-named table vid g.now valid (sym is)
+
+-- and the group of a processor
+pub bounded_with : (table : TableValue) (proc : Proc) (found : Option (Bor Group)) → IsValid table → option_copied found ≡ group_with table proc → IfSome found (λ g. IsBounded table.n g.now)
+bounded_with table proc None valid is = tt
+bounded_with table proc (Some g) valid is =
+    All-contains (IsBounded table.n) table.groups g.now (bounded-valid table valid) (find-passes (λ h. is_member h proc) table.groups g.now (sym is)).0
 
 -- a valid table has 1 to 40 groups
 pub some_groups : (table : TableValue) → IsValid table → 1 ≤ length table.groups

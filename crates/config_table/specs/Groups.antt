@@ -4,7 +4,9 @@ use Rattle.std.specs.List.{list_any, enumerate_from}
 use Rattle.ftpp_base.specs.Sets.{has}
 use Rattle.ftpp_base.specs.declared.element.Proc.{Proc}
 use Rattle.config_table.specs.declared.groups.Group.{Group}
+use Rattle.config_table.specs.declared.limits.TheConstants.{USUAL_OUTS, USUAL_INS}
 
+-- whether two processors are one
 abbrev pub same_proc : Proc → Proc → Bool
 same_proc a b = a.ne == b.ne && a.port == b.port
 
@@ -40,6 +42,7 @@ elements_of procs = map (λ proc. proc.ne) procs
 abbrev pub live_elements : Group → List ℕ
 live_elements g = elements_of (live_members g)
 
+-- how many live members there are
 abbrev pub live_count : Group → ℕ
 live_count g = length (live_seats g)
 
@@ -47,3 +50,20 @@ live_count g = length (live_seats g)
 abbrev pub index_from : Proc → ℕ → List Proc → Option ℕ
 index_from proc i [] = None
 index_from proc i (p ∷ ps) = if same_proc proc p then Some i else index_from proc (i + 1) ps
+
+-- the processor at an element and a port
+abbrev pub proc_at : ℕ × ℕ → Proc
+proc_at seat = record { ne = seat.0; port = seat.1 }
+
+-- the group of a number with these members, none of them masked, and with the usual timeouts and limits
+abbrev pub usual_group : ℕ → List Proc → Group
+usual_group vid procs = record {
+  vid = vid;
+  members = record { items = procs };
+  masked = record { bits = 0 };
+  ts = 3;
+  tr = 2;
+  tx = 0;
+  outs = USUAL_OUTS;
+  ins = USUAL_INS;
+}

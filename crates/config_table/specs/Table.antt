@@ -3,8 +3,10 @@ use Rattle.std.specs.Prelude.{◌≡◌, ℕ, ◌^◌, Bool, true, not, ◌&&◌
 use Rattle.std.specs.List.{list_any}
 use Rattle.std.specs.Option.{option_or}
 use Rattle.ftpp_base.specs.Lists.{is_in}
+use Rattle.ftpp_base.specs.declared.limits.TheConstants.{MOST_GROUPS}
 use Rattle.ftpp_base.specs.declared.element.Proc.{Proc}
 use Rattle.config_table.specs.declared.groups.Group.{Group}
+use Rattle.config_table.specs.declared.limits.TheConstants.{FEWEST_MANAGERS, LONGEST_WAIT, MOST_SLOTS, USUAL_OUTS, USUAL_INS}
 use Rattle.config_table.specs.declared.errors.ConfigError.{ConfigError}
 use Rattle.config_table.specs.declared.errors.ConfigError.TheVariants.{Elements, GroupCount, Vid, VidOrder, Size, MemberRange, SameElement, SharedProcessor, Masked, Timeout, Expiry, Slots, Manager, ManagerLive}
 use Rattle.config_table.specs.Groups.{index_from, is_member, members_of, live_count}
@@ -36,12 +38,12 @@ abbrev pub seat_with : List Group → Proc → Option (ℕ × ℕ)
 seat_with [] proc = None
 seat_with (g ∷ gs) proc = option_or (seat_in g proc) (seat_with gs proc)
 
--- how many packets a processor's output and input hold
+-- how many packets a processor's output and input hold: as its group says, and the usual number in no group
 abbrev pub out_limit : TableValue → Proc → ℕ
-out_limit table proc = unwrap_or (option_map (λ g. g.outs) (group_with table proc)) 16
+out_limit table proc = unwrap_or (option_map (λ g. g.outs) (group_with table proc)) USUAL_OUTS
 
 abbrev pub in_limit : TableValue → Proc → ℕ
-in_limit table proc = unwrap_or (option_map (λ g. g.ins) (group_with table proc)) 32
+in_limit table proc = unwrap_or (option_map (λ g. g.ins) (group_with table proc)) USUAL_INS
 
 -- the error, where the test fails
 abbrev pub unless : Bool → ConfigError → Option ConfigError
@@ -109,15 +111,15 @@ masked_error g = unless (nat_lt g.masked.bits (2 ^ length (members_of g)) && nat
 
 -- a timeout is 1 to 1,000
 abbrev pub timeout_error : ℕ → ℕ → Option ConfigError
-timeout_error vid value = unless (is_within 1 1000 value) (Timeout vid value)
+timeout_error vid value = unless (is_within 1 LONGEST_WAIT value) (Timeout vid value)
 
 -- the expiry is at most 1,000
 abbrev pub expiry_error : Group → Option ConfigError
-expiry_error g = unless (nat_le g.tx 1000) (Expiry g.vid g.tx)
+expiry_error g = unless (nat_le g.tx LONGEST_WAIT) (Expiry g.vid g.tx)
 
 -- a limit of a port is 1 to 64
 abbrev pub slots_error : ℕ → ℕ → Option ConfigError
-slots_error vid value = unless (is_within 1 64 value) (Slots vid value)
+slots_error vid value = unless (is_within 1 MOST_SLOTS value) (Slots vid value)
 
 -- what each clause says of a group, after the earlier groups, in the order of the clauses
 abbrev pub group_errors : ℕ → List Group → Group → List (Option ConfigError)
@@ -153,12 +155,12 @@ elements_error n = unless (n == 4 || n == 5) (Elements n)
 
 -- there are 1 to 40 groups
 abbrev pub count_error : List Group → Option ConfigError
-count_error groups = unless (is_within 1 40 (length groups)) (GroupCount (length groups))
+count_error groups = unless (is_within 1 MOST_GROUPS (length groups)) (GroupCount (length groups))
 
 -- the manager is a group with at least three live members
 abbrev pub manager_error : ℕ → Option Group → Option ConfigError
 manager_error manager None = Some (Manager manager)
-manager_error manager (Some g) = unless (nat_le 3 (live_count g)) (ManagerLive manager (live_count g))
+manager_error manager (Some g) = unless (nat_le FEWEST_MANAGERS (live_count g)) (ManagerLive manager (live_count g))
 
 -- what each clause says of a table, in the order of the clauses
 abbrev pub table_errors : TableValue → List (Option ConfigError)

@@ -1,17 +1,17 @@
 //! The clauses of a valid table, each as a function that gives the error.
 
-ghost use Rattle.std.specs.Prelude.{◌≡◌, ◌≤◌, not, length, reverse, [], find, None};
+ghost use Rattle.std.specs.Prelude.{◌≡◌, ◌≤◌, not, length, reverse, [], find, None, option_copied};
 ghost use Rattle.config_table.specs.Table.{is_within, follows, repeated_element, is_in_range, is_free, first_error, vid_error, order_error, size_error, range_error, element_error, shared_error, masked_error, timeout_error, expiry_error, slots_error, group_error, groups_error, table_error, elements_error, count_error, manager_error, is_named};
 
 use crate::lookups::{is_taken, named, stands_at};
-use crate::{ConfigError, Group};
-use ftpp_base::Proc;
+use crate::{ConfigError, FEWEST_MANAGERS, Group, LONGEST_WAIT, MOST_SLOTS};
+use ftpp_base::{MOST_GROUPS, Proc};
 
 /// The first clause that a table of these parts breaks.
 #[tactic(auto, unfolding(crate::specs::Table::table_error))]
 pub(crate) fn table_error(n: u8, manager: u8, groups: &[Group]) -> Option<ConfigError>
     ensures error { result ≡ table_error (record { n = n; manager = manager; groups = groups.now }) }
-    ensures few { result ≡ None → length groups.now ≤ 40 }
+    ensures few { result ≡ None → length groups.now ≤ MOST_GROUPS }
 {
     first_error(&[
         elements_error(n),
@@ -33,6 +33,7 @@ fn first_error(errors: &[Option<ConfigError>]) -> Option<ConfigError>
     None
 }
 
+/// There are four or five elements.
 fn elements_error(n: u8) -> Option<ConfigError>
     ensures { result ≡ elements_error n }
 {
@@ -43,18 +44,20 @@ fn elements_error(n: u8) -> Option<ConfigError>
     }
 }
 
+/// There are 1 to [`MOST_GROUPS`] groups.
 fn count_error(groups: &[Group]) -> Option<ConfigError>
     ensures error { result ≡ count_error groups.now }
-    ensures few { result ≡ None → length groups.now ≤ 40 }
+    ensures few { result ≡ None → length groups.now ≤ MOST_GROUPS }
 {
     let count = groups.len();
-    if count >= 1 && count <= 40 {
+    if count >= 1 && count <= MOST_GROUPS {
         None
     } else {
         Some(ConfigError::GroupCount { count })
     }
 }
 
+/// The manager is a group of the table, and has at least [`FEWEST_MANAGERS`] live members.
 fn manager_error(manager: u8, groups: &[Group]) -> Option<ConfigError>
     ensures { result ≡ manager_error manager (find (is_named manager) groups.now) }
 {
@@ -62,7 +65,7 @@ fn manager_error(manager: u8, groups: &[Group]) -> Option<ConfigError>
         None => Some(ConfigError::Manager { manager }),
         Some(g) => {
             let live = g.live_count();
-            if live >= 3 {
+            if live >= FEWEST_MANAGERS {
                 None
             } else {
                 Some(ConfigError::ManagerLive { manager, live })
@@ -105,12 +108,14 @@ fn group_error(n: u8, earlier: &[Group], g: &Group) -> Option<ConfigError>
     ])
 }
 
+/// Whether a number is one of those from `low` to `high`.
 fn is_within(low: u16, high: u16, x: u16) -> bool
     ensures { result ≡ is_within low high x }
 {
     low <= x && x <= high
 }
 
+/// The number is 1 to 254.
 fn vid_error(g: &Group) -> Option<ConfigError>
     ensures { result ≡ vid_error g.now }
 {
@@ -131,6 +136,7 @@ fn follows(earlier: &[Group], g: &Group) -> bool
     }
 }
 
+/// The number is greater than that of the group before.
 fn order_error(earlier: &[Group], g: &Group) -> Option<ConfigError>
     ensures { result ≡ order_error (reverse earlier.now) g.now }
 {
@@ -141,6 +147,7 @@ fn order_error(earlier: &[Group], g: &Group) -> Option<ConfigError>
     }
 }
 
+/// There are one, three or four members.
 fn size_error(g: &Group) -> Option<ConfigError>
     ensures { result ≡ size_error g.now }
 {
@@ -152,6 +159,7 @@ fn size_error(g: &Group) -> Option<ConfigError>
     }
 }
 
+/// Whether the processor stands at one of `n` elements, at one of its eight ports.
 fn is_in_range(n: u8, p: Proc) -> bool
     ensures { result ≡ is_in_range n p }
 {
@@ -159,22 +167,21 @@ fn is_in_range(n: u8, p: Proc) -> bool
 }
 
 /// The first member outside the elements or the ports.
-fn outside(n: u8, members: &[Proc]) -> Option<Proc>
-    ensures { result ≡ find (λ p. not (is_in_range n p)) members.now }
+fn outside(n: u8, members: &[Proc]) -> Option<&Proc>
+    ensures { option_copied result ≡ find (λ p. not (is_in_range n p)) members.now }
 {
-    for p in members {
-        if !is_in_range(n, *p) {
-            return Some(*p);
-        }
-    }
-    None
+    members.iter().find(|p| !is_in_range(n, **p))
 }
 
+/// Each member is in that range.
 fn range_error(n: u8, g: &Group) -> Option<ConfigError>
     ensures { result ≡ range_error n g.now }
 {
     match outside(n, g.members.as_slice()) {
-        Some(proc) => Some(ConfigError::MemberRange { vid: g.vid, proc }),
+        Some(proc) => Some(ConfigError::MemberRange {
+            vid: g.vid,
+            proc: *proc,
+        }),
         None => None,
     }
 }
@@ -191,6 +198,7 @@ fn repeated(members: &[Proc]) -> Option<u8>
     None
 }
 
+/// Each member stands at an element of its own.
 fn element_error(g: &Group) -> Option<ConfigError>
     ensures { result ≡ element_error g.now }
 {
@@ -209,26 +217,26 @@ fn is_free(earlier: &[Group], proc: Proc) -> bool
 }
 
 /// The first member that an earlier group has.
-fn shared(earlier: &[Group], members: &[Proc]) -> Option<Proc>
-    ensures { result ≡ find (λ p. not (is_free (reverse earlier.now) p)) members.now }
+fn shared<'a>(earlier: &[Group], members: &'a [Proc]) -> Option<&'a Proc>
+    ensures { option_copied result ≡ find (λ p. not (is_free (reverse earlier.now) p)) members.now }
 {
-    for p in members {
-        if !is_free(earlier, *p) {
-            return Some(*p);
-        }
-    }
-    None
+    members.iter().find(|p| !is_free(earlier, **p))
 }
 
+/// No member is a member of an earlier group.
 fn shared_error(earlier: &[Group], g: &Group) -> Option<ConfigError>
     ensures { result ≡ shared_error (reverse earlier.now) g.now }
 {
     match shared(earlier, g.members.as_slice()) {
-        Some(proc) => Some(ConfigError::SharedProcessor { vid: g.vid, proc }),
+        Some(proc) => Some(ConfigError::SharedProcessor {
+            vid: g.vid,
+            proc: *proc,
+        }),
         None => None,
     }
 }
 
+/// Only members are masked, and not all of them.
 fn masked_error(g: &Group) -> Option<ConfigError>
     ensures { result ≡ masked_error g.now }
 {
@@ -243,20 +251,22 @@ fn masked_error(g: &Group) -> Option<ConfigError>
     }
 }
 
+/// A timeout is 1 to [`LONGEST_WAIT`].
 fn timeout_error(vid: u8, value: u16) -> Option<ConfigError>
     ensures { result ≡ timeout_error vid value }
 {
-    if is_within(1, 1000, value) {
+    if is_within(1, LONGEST_WAIT, value) {
         None
     } else {
         Some(ConfigError::Timeout { vid, value })
     }
 }
 
+/// The expiry is at most [`LONGEST_WAIT`].
 fn expiry_error(g: &Group) -> Option<ConfigError>
     ensures { result ≡ expiry_error g.now }
 {
-    if g.tx <= 1000 {
+    if g.tx <= LONGEST_WAIT {
         None
     } else {
         Some(ConfigError::Expiry {
@@ -266,10 +276,11 @@ fn expiry_error(g: &Group) -> Option<ConfigError>
     }
 }
 
+/// A limit of a port is 1 to [`MOST_SLOTS`].
 fn slots_error(vid: u8, value: u8) -> Option<ConfigError>
     ensures { result ≡ slots_error vid value }
 {
-    if is_within(1, 64, u16::from(value)) {
+    if is_within(1, u16::from(MOST_SLOTS), u16::from(value)) {
         None
     } else {
         Some(ConfigError::Slots { vid, value })

@@ -1,6 +1,6 @@
 //! What a cycle's pattern says of each group, and what is decided on it.
 
-use ftpp_base::{Ne, Row, Set8};
+use ftpp_base::{MOST_GROUPS, Ne, Row, Set8};
 use packet_format::Descriptor;
 
 /// What a group's members agree on in one pattern. The sets are of elements.
@@ -28,16 +28,16 @@ impl Default for GroupFlags {
             vid: 0,
             desc: None,
             unanimous: false,
-            live: Set8::default(),
-            holds: Set8::default(),
-            space: Set8::default(),
+            live: Set8::EMPTY,
+            holds: Set8::EMPTY,
+            space: Set8::EMPTY,
             most_space: false,
         }
     }
 }
 
 /// What each group's members agree on, one row for each group in the order of the table.
-pub type VotedFlags = Row<GroupFlags, 40>;
+pub type VotedFlags = Row<GroupFlags, MOST_GROUPS>;
 
 /// How a request is carried.
 #[derive(Clone, Copy, Debug, PartialEq, Eq)]

@@ -1,9 +1,10 @@
 //! Virtual groups.
 
-ghost use Rattle.std.specs.Prelude.{◌≡◌, ◌≤◌};
-ghost use Rattle.config_table.specs.Groups.{is_live, live_count};
+ghost use Rattle.std.specs.Prelude.{◌≡◌, ◌≤◌, length, map};
+ghost use Rattle.config_table.specs.Groups.{is_live, live_count, proc_at, usual_group};
 
 use crate::lookups::unmasked;
+use crate::{USUAL_INS, USUAL_OUTS};
 use ftpp_base::{Proc, Row, Set8};
 
 /// A group: its number, its members, which of them are masked, its timeouts, its expiry and the limits of its ports.
@@ -28,6 +29,24 @@ pub struct Group {
 }
 
 impl Group {
+    /// The group of that number with these members, each by its element and its port, and with what a group
+    /// usually has: nobody is masked, `ts` is 3, `tr` 2, `tx` 0, `outs` 16 and `ins` 32.
+    pub fn usual(vid: u8, members: &[(u8, u8)]) -> Group
+        requires { length members.now ≤ 4 }
+        ensures { result ≡ usual_group vid (map proc_at members.now) }
+    {
+        Group {
+            vid,
+            members: procs_at(members),
+            masked: Set8::EMPTY,
+            ts: 3,
+            tr: 2,
+            tx: 0,
+            outs: USUAL_OUTS,
+            ins: USUAL_INS,
+        }
+    }
+
     /// The same group again.
     pub fn copy(&self) -> Group
         ensures { result ≡ self.now }
@@ -64,13 +83,25 @@ impl Group {
     }
 }
 
+/// The processors at these elements and ports.
+fn procs_at(seats: &[(u8, u8)]) -> Row<Proc, 4>
+    requires { length seats.now ≤ 4 }
+    ensures { result.items ≡ map proc_at seats.now }
+{
+    let mut procs: Row<Proc, 4> = Row::new();
+    for &(ne, port) in seats {
+        procs.push(Proc { ne, port });
+    }
+    procs
+}
+
 // an entry of a `Row` needs a value to begin with
 impl Default for Group {
     fn default() -> Group {
         Group {
             vid: 0,
             members: Row::new(),
-            masked: Set8::default(),
+            masked: Set8::EMPTY,
             ts: 0,
             tr: 0,
             tx: 0,

@@ -5,6 +5,7 @@ mod checks;
 mod decisions;
 mod errors;
 mod groups;
+mod limits;
 mod lookups;
 mod tables;
 #[cfg(test)]
@@ -13,4 +14,5 @@ mod tests;
 pub use decisions::{Decision, GroupFlags, Kind, Service, StateRow, VotedFlags};
 pub use errors::ConfigError;
 pub use groups::Group;
+pub use limits::{FEWEST_MANAGERS, LONGEST_WAIT, MOST_SLOTS, USUAL_INS, USUAL_OUTS};
 pub use tables::Table;

@@ -29,48 +29,37 @@ pub(crate) fn unmasked(masked: &Set8, members: &[Proc]) -> u8
 pub(crate) fn stands_at(members: &[Proc], ne: u8) -> bool
     ensures { result ≡ list_any (λ p. p.ne == ne) members.now }
 {
-    for p in members {
-        if p.ne == ne {
-            return true;
-        }
-    }
-    false
+    members.iter().any(|p| p.ne == ne)
 }
 
 /// Whether the processor is one of the members.
 fn is_among(members: &[Proc], proc: Proc) -> bool
     ensures { result ≡ list_any (same_proc proc) members.now }
 {
-    for p in members {
-        if proc.ne == p.ne && proc.port == p.port {
-            return true;
-        }
-    }
-    false
+    members
+        .iter()
+        .any(|p| proc.ne == p.ne && proc.port == p.port)
 }
 
 /// Whether the processor is a member of one of the groups.
 pub(crate) fn is_taken(groups: &[Group], proc: Proc) -> bool
     ensures { result ≡ list_any (λ h. is_member h proc) groups.now }
 {
-    for g in groups {
-        if is_among(g.members.as_slice(), proc) {
-            return true;
-        }
-    }
-    false
+    groups.iter().any(|g| is_among(g.members.as_slice(), proc))
 }
 
 /// The group of that number.
 pub(crate) fn named(groups: &[Group], vid: u8) -> Option<&Group>
     ensures { option_copied result ≡ find (is_named vid) groups.now }
 {
-    for g in groups {
-        if g.vid == vid {
-            return Some(g);
-        }
-    }
-    None
+    groups.iter().find(|g| g.vid == vid)
+}
+
+/// The group of a processor.
+pub(crate) fn with_member(groups: &[Group], proc: Proc) -> Option<&Group>
+    ensures { option_copied result ≡ find (λ g. is_member g proc) groups.now }
+{
+    groups.iter().find(|g| is_among(g.members.as_slice(), proc))
 }
 
 /// The index of a processor among the members.

@@ -1,48 +1,32 @@
 use crate::{ConfigError, Group, Table};
 use ftpp_base::{Proc, Row, Set8};
 
-fn group(vid: u8, members: &[(u8, u8)]) -> Group {
-    let mut row = Row::new();
-    for &(ne, port) in members {
-        let _ = row.try_push(Proc { ne, port });
-    }
-    Group {
-        vid,
-        members: row,
-        masked: Set8 { bits: 0 },
-        ts: 3,
-        tr: 2,
-        tx: 0,
-        outs: 16,
-        ins: 32,
-    }
-}
-
-// the built-in table of four elements
+/// The built-in table of four elements.
 fn four_elements() -> [Group; 5] {
     [
-        group(1, &[(0, 0), (1, 0), (2, 0), (3, 0)]),
-        group(2, &[(0, 1), (1, 1), (2, 1)]),
-        group(3, &[(1, 2), (2, 2), (3, 2)]),
-        group(4, &[(3, 1)]),
-        group(5, &[(0, 3)]),
+        Group::usual(1, &[(0, 0), (1, 0), (2, 0), (3, 0)]),
+        Group::usual(2, &[(0, 1), (1, 1), (2, 1)]),
+        Group::usual(3, &[(1, 2), (2, 2), (3, 2)]),
+        Group::usual(4, &[(3, 1)]),
+        Group::usual(5, &[(0, 3)]),
     ]
 }
 
+/// What is wrong with a table of these parts.
 fn error_of(n: u8, manager: u8, groups: &[Group]) -> Option<ConfigError> {
     Table::new(n, manager, groups).err()
 }
 
-// what is wrong with the table of four elements where one group is another
+/// What is wrong with the table of four elements where one group is another.
 fn error_with(place: usize, group: Group) -> Option<ConfigError> {
     let mut groups = four_elements();
     groups[place.min(4)] = group;
     error_of(4, 1, &groups)
 }
 
-// the fourth group, to be changed
+/// The fourth group, to be changed.
 fn fourth() -> Group {
-    group(4, &[(3, 1)])
+    Group::usual(4, &[(3, 1)])
 }
 
 #[test]
@@ -57,32 +41,32 @@ fn names_the_first_broken_clause(rt: HostRuntime) {
         (error_of(6, 1, &[]), ConfigError::Elements { n: 6 }, 1),
         (error_of(4, 1, &[]), ConfigError::GroupCount { count: 0 }, 2),
         (
-            error_with(0, group(0, &[(0, 0)])),
+            error_with(0, Group::usual(0, &[(0, 0)])),
             ConfigError::Vid { vid: 0 },
             3,
         ),
         (
-            error_with(4, group(255, &[(0, 3)])),
+            error_with(4, Group::usual(255, &[(0, 3)])),
             ConfigError::Vid { vid: 255 },
             3,
         ),
         (
-            error_with(4, group(4, &[(0, 3)])),
+            error_with(4, Group::usual(4, &[(0, 3)])),
             ConfigError::VidOrder { vid: 4 },
             4,
         ),
         (
-            error_with(3, group(4, &[(3, 1), (2, 5)])),
+            error_with(3, Group::usual(4, &[(3, 1), (2, 5)])),
             ConfigError::Size { vid: 4, size: 2 },
             5,
         ),
         (
-            error_with(3, group(4, &[])),
+            error_with(3, Group::usual(4, &[])),
             ConfigError::Size { vid: 4, size: 0 },
             5,
         ),
         (
-            error_with(3, group(4, &[(4, 1)])),
+            error_with(3, Group::usual(4, &[(4, 1)])),
             ConfigError::MemberRange {
                 vid: 4,
                 proc: Proc { ne: 4, port: 1 },
@@ -90,7 +74,7 @@ fn names_the_first_broken_clause(rt: HostRuntime) {
             6,
         ),
         (
-            error_with(3, group(4, &[(3, 8)])),
+            error_with(3, Group::usual(4, &[(3, 8)])),
             ConfigError::MemberRange {
                 vid: 4,
                 proc: Proc { ne: 3, port: 8 },
@@ -98,12 +82,12 @@ fn names_the_first_broken_clause(rt: HostRuntime) {
             6,
         ),
         (
-            error_with(3, group(4, &[(3, 1), (2, 5), (3, 6)])),
+            error_with(3, Group::usual(4, &[(3, 1), (2, 5), (3, 6)])),
             ConfigError::SameElement { vid: 4, ne: 3 },
             7,
         ),
         (
-            error_with(3, group(4, &[(3, 0)])),
+            error_with(3, Group::usual(4, &[(3, 0)])),
             ConfigError::SharedProcessor { vid: 4, proc },
             8,
         ),
@@ -208,7 +192,7 @@ fn names_the_first_broken_clause(rt: HostRuntime) {
 fn refuses_more_than_forty_groups(rt: HostRuntime) {
     let mut groups: Row<Group, 41> = Row::new();
     for vid in 1..42 {
-        let _ = groups.try_push(group(vid, &[]));
+        let _ = groups.try_push(Group::usual(vid, &[]));
     }
     let count = groups.len();
     let error = error_of(4, 1, groups.as_slice());
@@ -232,7 +216,7 @@ fn looks_up_groups_and_members(rt: HostRuntime) {
         tx: 1000,
         outs: 64,
         ins: 1,
-        ..group(1, &[(0, 0), (1, 0), (2, 0), (3, 0)])
+        ..Group::usual(1, &[(0, 0), (1, 0), (2, 0), (3, 0)])
     };
     let table = Table::new(4, 1, &groups).expect(&rt, "a valid table");
     assert_eq!(rt;

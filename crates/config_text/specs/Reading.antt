@@ -8,6 +8,7 @@ use Rattle.ftpp_base.specs.declared.sets.Set8.{Set8}
 use Rattle.arrayvec.specs.ArrayVec.{ArrayVec}
 use Rattle.config_table.specs.declared.groups.Group.{Group}
 use Rattle.config_table.specs.declared.errors.ConfigError.{ConfigError}
+use Rattle.config_table.specs.declared.limits.TheConstants.{USUAL_OUTS, USUAL_INS}
 use Rattle.config_table.specs.Table.{TableValue, table_error}
 use Rattle.config_text.specs.declared.errors.ConfigKey.TheVariants.{Version, Elements, Manager, Groups, Vid, Members as MembersKey, Ts, Tr, Masked, Tx, Outs, Ins}
 use Rattle.config_text.specs.declared.errors.TextError.{TextError}
@@ -66,10 +67,10 @@ unfoldable pub tx_in : ℕ → Members → Result ℕ TextError
 tx_in at ms = optional (place (Some at) Tx) (number_of 65535) 0 (get_member (codes "tx") ms)
 
 unfoldable pub outs_in : ℕ → Members → Result ℕ TextError
-outs_in at ms = optional (place (Some at) Outs) (number_of 255) 16 (get_member (codes "outs") ms)
+outs_in at ms = optional (place (Some at) Outs) (number_of 255) USUAL_OUTS (get_member (codes "outs") ms)
 
 unfoldable pub ins_in : ℕ → Members → Result ℕ TextError
-ins_in at ms = optional (place (Some at) Ins) (number_of 255) 32 (get_member (codes "ins") ms)
+ins_in at ms = optional (place (Some at) Ins) (number_of 255) USUAL_INS (get_member (codes "ins") ms)
 
 -- the group that an entry at a place is
 unfoldable pub group_from : ℕ → ℕ → Data → Result Group TextError

@@ -10,6 +10,7 @@ ghost use Rattle.config_text.specs.Reading.{version_in, elements_in, manager_in,
 use crate::errors::{at_top, in_group};
 use crate::values::{number, procs_of, set_of, version_number};
 use crate::{ConfigKey, Place, TextError};
+use config_table::{USUAL_INS, USUAL_OUTS};
 use ftpp_base::{Proc, Row, Set8};
 use toml::value::Array;
 use toml::{Table, Value};
@@ -42,6 +43,7 @@ fn number_or(table: &Table, name: &str, at: Place, top: u16, absent: u16) -> Res
     }
 }
 
+/// The version, 1 or 2.
 #[tactic(auto, unfolding(crate::specs::Reading::version_in))]
 pub(crate) fn version_in(table: &Table) -> Result<u16, TextError>
     ensures { result ≡ version_in (table_view table.now) }
@@ -51,6 +53,7 @@ pub(crate) fn version_in(table: &Table) -> Result<u16, TextError>
     version_number(value).ok_or(TextError::Kind(at))
 }
 
+/// The number of elements, at most 255.
 #[tactic(auto, unfolding(crate::specs::Reading::elements_in))]
 pub(crate) fn elements_in(table: &Table) -> Result<u8, TextError>
     ensures { result ≡ elements_in (table_view table.now) }
@@ -59,6 +62,7 @@ pub(crate) fn elements_in(table: &Table) -> Result<u8, TextError>
     Ok(n as u8)
 }
 
+/// The number of the manager, at most 255.
 #[tactic(auto, unfolding(crate::specs::Reading::manager_in))]
 pub(crate) fn manager_in(table: &Table) -> Result<u8, TextError>
     ensures { result ≡ manager_in (table_view table.now) }
@@ -67,6 +71,7 @@ pub(crate) fn manager_in(table: &Table) -> Result<u8, TextError>
     Ok(n as u8)
 }
 
+/// The entries of the groups.
 #[tactic(auto, unfolding(crate::specs::Reading::groups_in))]
 pub(crate) fn groups_in(table: &Table) -> Result<&Array, TextError>
     ensures { MatchResult result (λ a. groups_in (table_view table.now) ≡ Ok (array_view a.now)) (λ e. groups_in (table_view table.now) ≡ Err e) }
@@ -76,6 +81,7 @@ pub(crate) fn groups_in(table: &Table) -> Result<&Array, TextError>
     value.as_array().ok_or(TextError::Kind(at))
 }
 
+/// The entry of a group as a table.
 #[tactic(auto, unfolding(crate::specs::Reading::table_at))]
 pub(crate) fn table_at(at: usize, value: &Value) -> Result<&Table, TextError>
     ensures { MatchResult result (λ t. table_at at (view value.now) ≡ Ok (table_view t.now)) (λ e. table_at at (view value.now) ≡ Err e) }
@@ -85,6 +91,7 @@ pub(crate) fn table_at(at: usize, value: &Value) -> Result<&Table, TextError>
         .ok_or(TextError::Kind(in_group(at, ConfigKey::Groups)))
 }
 
+/// A group's number, at most 255.
 #[tactic(auto, unfolding(crate::specs::Reading::vid_in))]
 pub(crate) fn vid_in(table: &Table, at: usize) -> Result<u8, TextError>
     ensures { result ≡ vid_in at (table_view table.now) }
@@ -93,6 +100,7 @@ pub(crate) fn vid_in(table: &Table, at: usize) -> Result<u8, TextError>
     Ok(n as u8)
 }
 
+/// A group's members, at most four.
 #[tactic(auto, unfolding(crate::specs::Reading::members_in))]
 pub(crate) fn members_in(table: &Table, at: usize) -> Result<Row<Proc, 4>, TextError>
     ensures { result ≡ members_in at (table_view table.now) }
@@ -102,6 +110,7 @@ pub(crate) fn members_in(table: &Table, at: usize) -> Result<Row<Proc, 4>, TextE
     procs_of(value).ok_or(TextError::Kind(at))
 }
 
+/// The timeout `ts`, at most 65,535.
 #[tactic(auto, unfolding(crate::specs::Reading::ts_in))]
 pub(crate) fn ts_in(table: &Table, at: usize) -> Result<u16, TextError>
     ensures { result ≡ ts_in at (table_view table.now) }
@@ -109,6 +118,7 @@ pub(crate) fn ts_in(table: &Table, at: usize) -> Result<u16, TextError>
     number_at(table, "ts", in_group(at, ConfigKey::Ts), 65535)
 }
 
+/// The timeout `tr`, at most 65,535.
 #[tactic(auto, unfolding(crate::specs::Reading::tr_in))]
 pub(crate) fn tr_in(table: &Table, at: usize) -> Result<u16, TextError>
     ensures { result ≡ tr_in at (table_view table.now) }
@@ -116,16 +126,18 @@ pub(crate) fn tr_in(table: &Table, at: usize) -> Result<u16, TextError>
     number_at(table, "tr", in_group(at, ConfigKey::Tr), 65535)
 }
 
+/// The set of masked members, empty where the key is absent.
 #[tactic(auto, unfolding(crate::specs::Reading::masked_in))]
 pub(crate) fn masked_in(table: &Table, at: usize) -> Result<Set8, TextError>
     ensures { result ≡ masked_in at (table_view table.now) }
 {
     match lookup(table, "masked") {
-        None => Ok(Set8 { bits: 0 }),
+        None => Ok(Set8::EMPTY),
         Some(value) => set_of(value).ok_or(TextError::Kind(in_group(at, ConfigKey::Masked))),
     }
 }
 
+/// The expiry, 0 where the key is absent.
 #[tactic(auto, unfolding(crate::specs::Reading::tx_in))]
 pub(crate) fn tx_in(table: &Table, at: usize) -> Result<u16, TextError>
     ensures { result ≡ tx_in at (table_view table.now) }
@@ -133,18 +145,32 @@ pub(crate) fn tx_in(table: &Table, at: usize) -> Result<u16, TextError>
     number_or(table, "tx", in_group(at, ConfigKey::Tx), 65535, 0)
 }
 
+/// The output limit, the usual one where the key is absent.
 #[tactic(auto, unfolding(crate::specs::Reading::outs_in))]
 pub(crate) fn outs_in(table: &Table, at: usize) -> Result<u8, TextError>
     ensures { result ≡ outs_in at (table_view table.now) }
 {
-    let n = number_or(table, "outs", in_group(at, ConfigKey::Outs), 255, 16)?;
+    let n = number_or(
+        table,
+        "outs",
+        in_group(at, ConfigKey::Outs),
+        255,
+        u16::from(USUAL_OUTS),
+    )?;
     Ok(n as u8)
 }
 
+/// The input limit, the usual one where the key is absent.
 #[tactic(auto, unfolding(crate::specs::Reading::ins_in))]
 pub(crate) fn ins_in(table: &Table, at: usize) -> Result<u8, TextError>
     ensures { result ≡ ins_in at (table_view table.now) }
 {
-    let n = number_or(table, "ins", in_group(at, ConfigKey::Ins), 255, 32)?;
+    let n = number_or(
+        table,
+        "ins",
+        in_group(at, ConfigKey::Ins),
+        255,
+        u16::from(USUAL_INS),
+    )?;
     Ok(n as u8)
 }

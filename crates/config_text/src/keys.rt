@@ -9,7 +9,7 @@ use crate::errors::{at_top, in_group};
 use crate::{ConfigKey, TextError};
 use toml::Table;
 
-/// Nothing, or the error that a key at the top is not listed.
+/// Refuses a document with a key that is not listed at the top.
 #[tactic(auto, unfolding(crate::specs::Reading::top_only))]
 pub(crate) fn top_only(table: &Table) -> Result<(), TextError>
     ensures { result ≡ top_only (table_view table.now) }
@@ -21,7 +21,7 @@ pub(crate) fn top_only(table: &Table) -> Result<(), TextError>
     }
 }
 
-/// Nothing, or the error that a key of the group is not listed for the version.
+/// Refuses a group with a key that is not listed for the version.
 #[tactic(auto, unfolding(crate::specs::Reading::group_only))]
 pub(crate) fn group_only(version: u16, at: usize, table: &Table) -> Result<(), TextError>
     ensures { result ≡ group_only version at (table_view table.now) }
@@ -33,6 +33,7 @@ pub(crate) fn group_only(version: u16, at: usize, table: &Table) -> Result<(), T
     }
 }
 
+/// Whether a key is listed at the top.
 #[tactic(auto, unfolding(crate::specs::Reading::is_top_key))]
 fn is_top_key(key: &str) -> bool
     ensures { result ≡ is_top_key key.now }
@@ -40,6 +41,7 @@ fn is_top_key(key: &str) -> bool
     key == "version" || key == "elements" || key == "manager" || key == "group"
 }
 
+/// Whether a key is listed for a group in that version.
 #[tactic(auto, unfolding(crate::specs::Reading::is_group_key))]
 fn is_group_key(version: u16, key: &str) -> bool
     ensures { result ≡ is_group_key version key.now }
@@ -52,6 +54,7 @@ fn is_group_key(version: u16, key: &str) -> bool
         || version == 2 && (key == "tx" || key == "outs" || key == "ins")
 }
 
+/// Whether all keys of a document are listed.
 fn has_top_keys(table: &Table) -> bool
     ensures { result ≡ are_listed is_top_key (table_view table.now) }
 {
@@ -63,6 +66,7 @@ fn has_top_keys(table: &Table) -> bool
     true
 }
 
+/// Whether all keys of a group are listed for the version.
 fn has_group_keys(version: u16, table: &Table) -> bool
     ensures { result ≡ are_listed (is_group_key version) (table_view table.now) }
 {

@@ -15,7 +15,7 @@ use std::alloc::Global;
 use toml::Value;
 use toml::value::Array;
 
-/// One key more.
+/// Puts a value at a key.
 fn put(alloc: Global, table: &mut toml::Table, name: &str, value: Value) -> Result<(), NoMemory>
     ensures { OnOk result (table_view table.new ≡ with_member name.now (view value) (table_view table.old)) }
 {
@@ -29,6 +29,7 @@ fn put(alloc: Global, table: &mut toml::Table, name: &str, value: Value) -> Resu
     }
 }
 
+/// Puts a number at a key.
 fn put_number(
     alloc: Global,
     table: &mut toml::Table,
@@ -40,7 +41,7 @@ fn put_number(
     put(alloc, table, name, Value::from(u32::from(number)))
 }
 
-/// One item more.
+/// Puts a value at the end of an array.
 fn add(array: &mut Array, value: Value) -> Result<(), NoMemory>
     ensures { OnOk result (array.new.items ≡ array.old.items ++ value ∷ []) }
 {
@@ -61,6 +62,7 @@ fn printed_proc(alloc: Global, p: Proc) -> Result<Value, NoMemory>
     }
 }
 
+/// The processors as an array of texts.
 fn printed_procs(alloc: Global, members: &[Proc]) -> Result<Value, NoMemory>
     requires { All HasDigits members.now }
     ensures { IfOk result (λ v. view v ≡ printed_procs members.now) }
@@ -85,6 +87,7 @@ fn add_number(array: &mut Array, set: &Set8, i: u8) -> Result<(), NoMemory>
     Ok(())
 }
 
+/// The numbers of a set as an array, ascending.
 #[tactic(auto, using(crate::proofs::Inserted::numbers_more), unfolding(crate::specs::Printing::printed_set))]
 fn printed_set(alloc: Global, set: &Set8) -> Result<Value, NoMemory>
     ensures { IfOk result (λ v. view v ≡ printed_set set.now) }
@@ -96,6 +99,7 @@ fn printed_set(alloc: Global, set: &Set8) -> Result<Value, NoMemory>
     Ok(Value::from(array))
 }
 
+/// A group with all keys of version 2.
 #[tactic(auto, unfolding(crate::specs::Printing::printed_group))]
 fn printed_group(alloc: Global, g: &Group) -> Result<toml::Table, NoMemory>
     requires { All HasDigits (members_of g.now) }
@@ -115,6 +119,7 @@ fn printed_group(alloc: Global, g: &Group) -> Result<toml::Table, NoMemory>
     Ok(table)
 }
 
+/// The groups as an array of tables.
 fn printed_groups(alloc: Global, groups: &[Group]) -> Result<Value, NoMemory>
     requires { All (λ g. All HasDigits (members_of g)) groups.now }
     ensures { IfOk result (λ v. view v ≡ printed_groups groups.now) }
@@ -127,6 +132,7 @@ fn printed_groups(alloc: Global, groups: &[Group]) -> Result<Value, NoMemory>
     Ok(Value::from(array))
 }
 
+/// A table as a document of version 2.
 #[tactic(auto, unfolding(crate::specs::Printing::printed_table))]
 fn printed_table(alloc: Global, table: &Table) -> Result<toml::Table, NoMemory>
     ensures document { IfOk result (λ t. table_view t ≡ printed_table table.now) }

@@ -33,6 +33,7 @@ pub(crate) fn version_number(value: &Value) -> Option<u16>
     if n == 1 || n == 2 { Some(n) } else { None }
 }
 
+/// Whether a byte is a decimal digit.
 fn is_digit(b: u8) -> bool
     ensures { result ≡ is_digit b }
 {
@@ -58,6 +59,7 @@ fn proc_from(word: &[u8]) -> Option<Proc>
     }
 }
 
+/// A text of one processor.
 #[tactic(auto, unfolding(crate::specs::Values::proc_of))]
 fn proc_of(value: &Value) -> Option<Proc>
     ensures { result ≡ proc_of (view value.now) }
@@ -84,6 +86,7 @@ fn few_procs(array: &Array) -> Option<Row<Proc, 4>>
     Some(row)
 }
 
+/// An array of at most four processors.
 #[tactic(auto, unfolding(crate::specs::Values::procs_of))]
 pub(crate) fn procs_of(value: &Value) -> Option<Row<Proc, 4>>
     ensures { result ≡ procs_of (view value.now) }
@@ -92,10 +95,11 @@ pub(crate) fn procs_of(value: &Value) -> Option<Row<Proc, 4>>
     few_procs(array)
 }
 
+/// The set of the numbers of an array, each below 8.
 fn set_from(array: &Array) -> Option<Set8>
     ensures { result ≡ set_from (record { bits = 0 }) (array_view array.now) }
 {
-    let mut found = Set8 { bits: 0 };
+    let mut found = Set8::EMPTY;
     for value in array {
         match number(value, 7) {
             Some(i) => found = found.with(i as u8),
@@ -105,6 +109,7 @@ fn set_from(array: &Array) -> Option<Set8>
     Some(found)
 }
 
+/// An array of numbers below 8, as a set.
 #[tactic(auto, unfolding(crate::specs::Values::set_of))]
 pub(crate) fn set_of(value: &Value) -> Option<Set8>
     ensures { result ≡ set_of (view value.now) }

@@ -17,22 +17,11 @@ use Rattle.ftpp_base.proofs.SetLaws.{has-set_where, set_where-same}
 use Rattle.packet_format.specs.declared.Descriptor.{Descriptor}
 use Rattle.config_table.specs.Groups.{live_members, elements_of}
 use Rattle.config_table.specs.declared.groups.Group.{Group}
+pub use Rattle.config_table.proofs.Unmasked.{unmasked_more}
 use Rattle.flag_vote.specs.Flags.{Pattern, holds, has_space, descriptor_of, holders, all_hold, voted_descriptor, flags_of}
 use Rattle.flag_vote.specs.Words.{asks, unmasked_from, held_by, all_hold_it, most_hold, most_held, flags_on}
 
 -- ---- one member more
-
-keep_seat : (b : Bool) (i : ℕ) (p : Proc) (seats : List (ℕ × Proc))
-    → map (λ (seat : ℕ × Proc). seat.1) (cond (not b) ((i, p) ∷ seats) seats) ≡ cond (not b) (p ∷ []) [] ++ map (λ (seat : ℕ × Proc). seat.1) seats
-keep_seat true i p seats = refl
-keep_seat false i p seats = refl
-
--- the members from a place on: the one there, if it is not masked, and the later ones
-pub unmasked_more : (s : Set8) (i : ℕ) (ms : List Proc) (d : Proc) → i < length ms
-    → unmasked_from s i (drop i ms) ≡ cond (not (has s i)) (get_or ms i d ∷ []) [] ++ unmasked_from s (i + 1) (drop (i + 1) ms)
-unmasked_more s i ms d l =
-    ap (unmasked_from s i) (drop_more ms i d l)
-    ∙ keep_seat (has s i) i (get_or ms i d) (filter (λ seat. not (has s seat.0)) (enumerate_from (i + 1) (drop (i + 1) ms)))
 
 keep_one : (b : Bool) (p : Proc) (rest : List Proc) → cond b (p ∷ rest) rest ≡ cond b (p ∷ []) [] ++ rest
 keep_one true p rest = refl

@@ -8,22 +8,15 @@ use Rattle.packet_format.specs.declared.Descriptor.{Descriptor}
 use Rattle.packet_format.specs.Packets.{same_descriptor}
 use Rattle.local_pattern.specs.declared.Entry.{Entry}
 use Rattle.local_pattern.specs.Pattern.{entry_of}
+pub use Rattle.local_pattern.specs.Columns.{Pattern, has_space}
 use Rattle.config_table.specs.declared.groups.Group.{Group}
 use Rattle.config_table.specs.declared.decisions.GroupFlags.{GroupFlags}
 use Rattle.config_table.specs.Groups.{live_members, live_elements, elements_of}
 use Rattle.config_table.specs.Table.{TableValue}
 
--- the agreed pattern: the columns of the elements, each with an entry for each port
-abbrev pub Pattern : Type 0
-Pattern = List (List Entry)
-
 -- whether a member holds the request: its entry is not empty and carries it
 abbrev pub holds : Pattern → Descriptor → Proc → Bool
 holds pattern desc proc = (entry_of pattern proc).not_empty && same_descriptor (entry_of pattern proc).desc desc
-
--- whether a member says not full
-abbrev pub has_space : Pattern → Proc → Bool
-has_space pattern proc = (entry_of pattern proc).not_full
 
 -- the request that a member shows
 abbrev pub descriptor_of : Pattern → Proc → Descriptor

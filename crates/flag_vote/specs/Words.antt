@@ -7,15 +7,12 @@ use Rattle.ftpp_base.specs.declared.element.Proc.{Proc}
 use Rattle.ftpp_base.specs.declared.sets.Set8.{Set8}
 use Rattle.packet_format.specs.declared.Descriptor.{Descriptor}
 use Rattle.config_table.specs.Groups.{elements_of}
+pub use Rattle.config_table.specs.Members.{unmasked_from}
 use Rattle.config_table.specs.declared.decisions.GroupFlags.{GroupFlags}
 use Rattle.flag_vote.specs.declared.members.Word.{Word}
 use Rattle.flag_vote.specs.declared.members.Word.TheVariants.{Asks, Holds, Space}
 use Rattle.local_pattern.specs.Pattern.{entry_of}
 use Rattle.flag_vote.specs.Flags.{Pattern, holds, has_space, descriptor_of}
-
--- the members that are not masked, whose indices count from a number
-abbrev pub unmasked_from : Set8 → ℕ → List Proc → List Proc
-unmasked_from masked i members = map (λ seat. seat.1) (filter (λ seat. not (has masked seat.0)) (enumerate_from i members))
 
 -- whether a member has a request
 abbrev pub asks : Pattern → Proc → Bool

@@ -9,7 +9,7 @@ ghost use Rattle.flag_vote.specs.Words.{flags_on, most_hold, most_held, held_by,
 
 use crate::members::{Word, all_say, count_those, elements, live_members, said_at};
 use config_table::{Group, GroupFlags, Table, VotedFlags};
-use ftpp_base::{Proc, Set8};
+use ftpp_base::{MOST_GROUPS, Proc, Set8};
 use local_pattern::SystemPattern;
 use packet_format::Descriptor;
 
@@ -44,7 +44,7 @@ fn first_held<const N: usize>(pattern: &SystemPattern<N>, live: &[Proc]) -> Opti
     None
 }
 
-/// The same. Without more than half of them that have a request there is none.
+/// Like `first_held`, but counts first who asks at all: without more than half of the live members there is no voted request.
 fn voted_by<const N: usize>(pattern: &SystemPattern<N>, live: &[Proc]) -> Option<Descriptor>
     requires { length live.now ≤ 4 }
     ensures { result ≡ most_held pattern.now live.now }
@@ -108,7 +108,7 @@ fn group_flags<const N: usize>(pattern: &SystemPattern<N>, g: &Group) -> GroupFl
 
 /// The flags of the groups, in their order.
 fn all_flags<const N: usize>(pattern: &SystemPattern<N>, groups: &[Group]) -> VotedFlags
-    requires { length groups.now ≤ 40 }
+    requires { length groups.now ≤ MOST_GROUPS }
     ensures { result.items ≡ map (flags_of pattern.now) groups.now }
 {
     let mut flags = VotedFlags::new();

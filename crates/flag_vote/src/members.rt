@@ -122,7 +122,7 @@ fn with_element(set: Set8, ne: u8) -> Set8
     if ne < 8 { set.with(ne) } else { set }
 }
 
-/// The same, where it belongs there.
+/// The set with one element more where it belongs there, and the set as it is where not.
 fn with_element_if(set: Set8, belongs: bool, ne: u8) -> Set8
     ensures { (xs : List ℕ) → set ≡ set_of xs → result ≡ set_of (xs ++ (if belongs then ne ∷ [] else [])) }
 {
@@ -133,7 +133,7 @@ fn with_element_if(set: Set8, belongs: bool, ne: u8) -> Set8
 pub fn said_at<const N: usize>(pattern: &SystemPattern<N>, word: &Word, members: &[Proc]) -> Set8
     ensures { result ≡ set_of (elements_of (filter (says pattern.now word.now) members.now)) }
 {
-    let mut set = Set8 { bits: 0 };
+    let mut set = Set8::EMPTY;
     for p in members {
         let belongs = says(pattern, word, *p);
         set = with_element_if(set, belongs, p.ne);
@@ -145,7 +145,7 @@ pub fn said_at<const N: usize>(pattern: &SystemPattern<N>, word: &Word, members:
 pub fn elements(members: &[Proc]) -> Set8
     ensures { result ≡ set_of (elements_of members.now) }
 {
-    let mut set = Set8 { bits: 0 };
+    let mut set = Set8::EMPTY;
     for p in members {
         set = with_element(set, p.ne);
     }

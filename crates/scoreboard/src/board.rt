@@ -14,7 +14,7 @@ use crate::decision::{decided, taken};
 use crate::lookups::{blank_line, groups_in, line_of};
 use crate::marks::mark_all;
 use config_table::{Decision, GroupFlags, StateRow, Table, VotedFlags};
-use ftpp_base::Row;
+use ftpp_base::{MOST_CYCLES, MOST_GROUPS, Row};
 use packet_format::Descriptor;
 use sender_choice::{Chooser, IndexChooser};
 use std::marker::Model;
@@ -22,7 +22,7 @@ use std::marker::Model;
 /// Which request waits since when, and which member lags: one line for each group, in the order of the table.
 #[derive(Drop)]
 pub struct Scoreboard {
-    lines: Row<StateRow, 40>,
+    lines: Row<StateRow, MOST_GROUPS>,
     /// The groups with a request, the oldest first.
     chooser: IndexChooser,
 }
@@ -54,9 +54,10 @@ impl Scoreboard {
         }
     }
 
-    /// Takes the votes of cycle `now`, below 100,000 and later than any that the scoreboard knows of, and decides what is done in it.
+    /// Takes the votes of cycle `now` and decides what is done in it. `now` is below 100,000 and later than
+    /// the cycle of each step so far, and after `restore` it is at least `next`.
     pub fn step(&mut self, table: &Table, now: u32, flags: &VotedFlags) -> Decision
-        requires cycle { now < 100000 }
+        requires cycle { now < MOST_CYCLES }
         requires earlier { AreBefore now self.old }
         ensures decision { result ≡ scoreboard_decision table.now now flags.now.items self.old }
         ensures after { self.new ≡ scoreboard_after table.now now flags.now.items self.old }
@@ -70,7 +71,7 @@ impl Scoreboard {
         decision
     }
 
-    /// Such a step, after which another scoreboard is what this one would be; this one stays.
+    /// Like `step`, but writes the new scoreboard to `after`.
     pub fn step_into(
         &self,
         table: &Table,
@@ -78,7 +79,7 @@ impl Scoreboard {
         flags: &VotedFlags,
         after: &mut Scoreboard,
     ) -> Decision
-        requires cycle { now < 100000 }
+        requires cycle { now < MOST_CYCLES }
         requires earlier { AreBefore now self.now }
         ensures decision { result ≡ scoreboard_decision table.now now flags.now.items self.now }
         ensures after { after.new ≡ scoreboard_after table.now now flags.now.items self.now }
@@ -92,7 +93,7 @@ impl Scoreboard {
         decision
     }
 
-    /// Of no table.
+    /// An empty scoreboard, without lines.
     fn blank() -> Scoreboard
         ensures { result ≡ [] }
     {
@@ -102,9 +103,9 @@ impl Scoreboard {
         }
     }
 
-    /// The pattern of a cycle, after which another scoreboard is what this one would be.
+    /// Writes the scoreboard after the votes of a cycle to `after`, before anything is decided.
     fn mark_into(&self, table: &Table, now: u32, flags: &[GroupFlags], after: &mut Scoreboard)
-        requires cycle { now < 100000 }
+        requires cycle { now < MOST_CYCLES }
         requires earlier { AreBefore now self.now }
         ensures after { after.new ≡ marked table.now flags.now now self.now }
         ensures earlier { AreBefore (now + 1) after.new }
@@ -114,7 +115,7 @@ impl Scoreboard {
         hold(&mut after.chooser, table, after.lines.as_slice());
     }
 
-    /// What is done in the cycle.
+    /// Decides what is done in the cycle.
     #[tactic(auto, unfolding(crate::specs::Choice::decision_of))]
     fn decide(&self, table: &Table, now: u32, flags: &[GroupFlags]) -> Decision
         requires { AreBefore (now + 1) self.now }
@@ -141,7 +142,7 @@ impl Scoreboard {
         }
     }
 
-    /// Goes over to a table that an update of one group gave: that group has no request and no lags.
+    /// Goes over to `table`, which an update of group `vid` gave. That group has no request and no lags from now on.
     pub fn after_update(&mut self, table: &Table, vid: u8)
         requires { AreOthersHeldBy table.now vid self.old }
         ensures after { self.new ≡ after_update table.now vid self.old }
@@ -154,7 +155,7 @@ impl Scoreboard {
         self.chooser.clear(vid);
     }
 
-    /// The request of a group with its since, None exactly where it has none.
+    /// The request of a group and the cycle since which it waits. None exactly where the group has no request.
     pub fn request(&self, vid: u8) -> Option<(Descriptor, u32)>
         ensures { result ≡ request_of self.now vid }
     {
@@ -164,7 +165,8 @@ impl Scoreboard {
         }
     }
 
-    /// For how many cycles in a row the receiver of a group's request had no most space, None exactly where it has no request.
+    /// For how many cycles in a row the destination of a group's request was without most space. None exactly
+    /// where the group has no request.
     pub fn starved(&self, vid: u8) -> Option<u32>
         ensures { result ≡ starved_of self.now vid }
     {
@@ -174,7 +176,8 @@ impl Scoreboard {
         }
     }
 
-    /// For how many cycles in a row a member said full while its group had most space; `index` is below 4.
+    /// For how many cycles in a row a member said full while its group had most space, and 0 where there is no
+    /// such member. `index` is below 4.
     pub fn lag(&self, vid: u8, index: u8) -> u32
         requires { index < 4 }
         ensures { result ≡ lag_of self.now vid index }
@@ -182,21 +185,24 @@ impl Scoreboard {
         line_of(self.lines.as_slice(), vid).lags[usize::from(index)]
     }
 
-    /// The lines of a table's groups, in order.
-    pub fn snapshot(&self, table: &Table) -> Row<StateRow, 40>
+    /// The lines of the table's groups, in their order.
+    pub fn snapshot(&self, table: &Table) -> Row<StateRow, MOST_GROUPS>
         ensures lines { result.items ≡ lines_for table.now self.now }
         ensures same { AreLinesOf table.now self.now → result.items ≡ self.now }
     {
         lines_in(table, self.lines.as_slice(), None)
     }
 
-    /// Takes over the lines of a table's groups, as they stand before cycle `next`.
-    pub fn restore(&mut self, table: &Table, rows: &Row<StateRow, 40>, next: u32)
+    /// Takes over the lines of the table's groups, as they stand before cycle `next`: one for each group, in
+    /// order, and past the size of a group its lags are 0.
+    pub fn restore(&mut self, table: &Table, rows: &Row<StateRow, MOST_GROUPS>, next: u32)
         requires lines { AreLinesOf table.now rows.now.items }
         requires earlier { AreBefore next rows.now.items }
+        requires members { OnlyMembersLag table.now rows.now.items }
         ensures lines { self.new ≡ rows.now.items }
+        ensures members { OnlyMembersLag table.now self.new }
     {
-        let mut lines: Row<StateRow, 40> = Row::new();
+        let mut lines: Row<StateRow, MOST_GROUPS> = Row::new();
         lines.try_extend_from_slice(rows.as_slice()).unwrap();
         self.chooser = IndexChooser::new();
         hold(&mut self.chooser, table, rows.as_slice());
@@ -204,7 +210,7 @@ impl Scoreboard {
     }
 }
 
-/// The line of a group, blank where it is the group that was updated.
+/// The line of a group, blank for the group that was updated.
 fn line_in(lines: &[StateRow], updated: Option<u8>, vid: u8) -> StateRow
     ensures { result ≡ line_but lines.now updated vid }
 {
@@ -215,11 +221,11 @@ fn line_in(lines: &[StateRow], updated: Option<u8>, vid: u8) -> StateRow
 }
 
 /// The lines of a table's groups, in order, blank for the group that was updated.
-fn lines_in(table: &Table, lines: &[StateRow], updated: Option<u8>) -> Row<StateRow, 40>
+fn lines_in(table: &Table, lines: &[StateRow], updated: Option<u8>) -> Row<StateRow, MOST_GROUPS>
     ensures lines { result.items ≡ lines_but table.now lines.now updated }
     ensures valid { IsValid table.now }
 {
-    let mut rows: Row<StateRow, 40> = Row::new();
+    let mut rows: Row<StateRow, MOST_GROUPS> = Row::new();
     for group in groups_in(table) {
         rows.push(line_in(lines, updated, group.vid));
     }
@@ -237,7 +243,7 @@ fn end_request(lines: &mut [StateRow], vid: u8)
     }
 }
 
-/// Holds the request of each line since its cycle, and no other.
+/// Makes the chooser hold the request of each line since its cycle, and no other.
 fn hold(chooser: &mut IndexChooser, table: &Table, lines: &[StateRow])
     requires lines { AreLinesOf table.now lines.now }
     requires known { (vid : ℕ) → is_held (sinces_of chooser.old) vid ≡ true → is_some (group_named table.now vid) ≡ true }

@@ -52,7 +52,7 @@ fn takes_at(group: &Group, one: &GroupFlags, line: &StateRow, index: u8, member:
     one.space.has(member.ne) || line.lags[usize::from(index)] > u32::from(group.tr)
 }
 
-/// Whether each live member of a group does.
+/// Whether each live member of a group says not full or lags by more than the timeout.
 fn all_take(group: &Group, one: &GroupFlags, line: &StateRow) -> bool
     requires { IsBounded 5 group.now }
     ensures { result ≡ all_take group.now one.now line.now }

@@ -7,7 +7,7 @@ ghost use Rattle.scoreboard.specs.Times.{IsBefore, AreBefore};
 
 use crate::lookups::{blank_line, flags_named, groups_in, line_of};
 use config_table::{Group, GroupFlags, StateRow, Table};
-use ftpp_base::Row;
+use ftpp_base::{MOST_CYCLES, MOST_GROUPS, Row};
 use packet_format::Descriptor;
 
 /// A request with its since and starved.
@@ -29,7 +29,7 @@ fn lacks_space(flags: &[GroupFlags], desc: &Descriptor) -> bool
 
 /// A voted request as it waits from now on. It goes on waiting where it is the one that waited.
 fn waiting_since(starves: bool, now: u32, desc: &Descriptor, before: Option<Waiting>) -> Waiting
-    requires { (w : Waiting) → before ≡ Some w → w.2 < 100000 }
+    requires { (w : Waiting) → before ≡ Some w → w.2 < MOST_CYCLES }
     ensures { result ≡ waiting_since starves now desc.now before }
 {
     match before {
@@ -47,7 +47,7 @@ fn request_after(
     before: Option<Waiting>,
     desc: Option<Descriptor>,
 ) -> Option<Waiting>
-    requires { (w : Waiting) → before ≡ Some w → w.2 < 100000 }
+    requires { (w : Waiting) → before ≡ Some w → w.2 < MOST_CYCLES }
     ensures { result ≡ request_after flags.now now before desc }
 {
     match desc {
@@ -77,7 +77,7 @@ fn says_full(group: &Group, one: &GroupFlags, index: u8) -> bool
 /// The lag of a member after one pattern: it rises where the member says full while its group has most space.
 fn lag_after(group: &Group, one: &GroupFlags, lags: &[u32; 4], index: u8) -> u32
     requires bounded { IsBounded 5 group.now }
-    requires small { slice_index lags.now index < 100000 }
+    requires small { slice_index lags.now index < MOST_CYCLES }
     requires index { index < 4 }
     ensures { result ≡ lag_after group.now one.now lags.now index }
 {
@@ -88,9 +88,10 @@ fn lag_after(group: &Group, one: &GroupFlags, lags: &[u32; 4], index: u8) -> u32
     }
 }
 
+/// The lags of a group's members after one pattern.
 fn lags_after(group: &Group, one: &GroupFlags, lags: &[u32; 4]) -> [u32; 4]
     requires bounded { IsBounded 5 group.now }
-    requires small { (index : ℕ) → slice_index lags.now index < 100000 }
+    requires small { (index : ℕ) → slice_index lags.now index < MOST_CYCLES }
     ensures { result ≡ lags_after group.now one.now lags.now }
 {
     [
@@ -109,7 +110,7 @@ fn line_after(
     line: &StateRow,
     one: Option<GroupFlags>,
 ) -> StateRow
-    requires cycle { now < 100000 }
+    requires cycle { now < MOST_CYCLES }
     requires bounded { IsBounded 5 group.now }
     requires earlier { IsBefore now line.now }
     ensures { result ≡ line_after flags.now now group.now line.now one }
@@ -131,9 +132,9 @@ pub(crate) fn mark_all(
     flags: &[GroupFlags],
     now: u32,
     lines: &[StateRow],
-    after: &mut Row<StateRow, 40>,
+    after: &mut Row<StateRow, MOST_GROUPS>,
 )
-    requires cycle { now < 100000 }
+    requires cycle { now < MOST_CYCLES }
     requires earlier { AreBefore now lines.now }
     ensures { after.new.items ≡ marked table.now flags.now now lines.now }
 {

@@ -2,7 +2,7 @@ ghost use Rattle.std.specs.Prelude.{◌≤◌, length};
 
 use super::*;
 use config_table::{Decision, Group, GroupFlags, Kind, Table, VotedFlags};
-use ftpp_base::{Proc, Row, Set8};
+use ftpp_base::Set8;
 use packet_format::Descriptor;
 use std::test::Fail;
 
@@ -24,31 +24,17 @@ fn to_three(class: u8) -> Descriptor {
     }
 }
 
-fn group(vid: u8, tx: u16, members: &[(u8, u8)]) -> Group {
-    let mut row: Row<Proc, 4> = Row::new();
-    for &(ne, port) in members {
-        let _ = row.try_push(Proc { ne, port });
-    }
-    Group {
-        vid,
-        members: row,
-        masked: Set8 { bits: 0 },
-        ts: 3,
-        tr: 2,
-        tx,
-        outs: 16,
-        ins: 32,
-    }
-}
-
 /// The table of four elements, with an expiry of group 3.
 fn four_elements(tx: u16) -> Option<Table> {
     let groups = [
-        group(1, 0, &[(0, 0), (1, 0), (2, 0), (3, 0)]),
-        group(2, 0, &[(0, 1), (1, 1), (2, 1)]),
-        group(3, tx, &[(1, 2), (2, 2), (3, 2)]),
-        group(4, 0, &[(3, 1)]),
-        group(5, 0, &[(0, 3)]),
+        Group::usual(1, &[(0, 0), (1, 0), (2, 0), (3, 0)]),
+        Group::usual(2, &[(0, 1), (1, 1), (2, 1)]),
+        Group {
+            tx,
+            ..Group::usual(3, &[(1, 2), (2, 2), (3, 2)])
+        },
+        Group::usual(4, &[(3, 1)]),
+        Group::usual(5, &[(0, 3)]),
     ];
     Table::new(4, 1, &groups).ok()
 }
@@ -76,6 +62,7 @@ fn votes(two: Asked, four: Asked, five: Asked, space: u8) -> VotedFlags {
     flags
 }
 
+/// What a decision does, without its request.
 fn done(decision: &Decision) -> Done {
     match decision {
         Decision::Idle => None,

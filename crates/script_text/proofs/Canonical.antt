@@ -3,7 +3,7 @@ use Rattle.std.proofs.Common.{◌≡◌, ℕ, suc, ◌+◌, ◌-◌, Bool, true,
 use Rattle.std.specs.List.{flat_map, prefix_len}
 use Rattle.std.proofs.lemmas.List.{append-nil}
 use Rattle.std.proofs.lemmas.List.Concat.{flat_map-cons, flat_map-append}
-use Rattle.packet_format.specs.declared.Act.{Act}
+use Rattle.packet_format.specs.declared.acts.Act.{Act}
 use Rattle.fault_script.specs.declared.Edit.{Edit}
 use Rattle.script_text.specs.declared.items.Item.{Item}
 use Rattle.script_text.specs.declared.items.Item.TheVariants.{Cycles, Faulty}
@@ -14,13 +14,13 @@ use Rattle.script_text.specs.Printing.{item_line, text_of, front_while, rest_aft
 suc_is : (n : ℕ) → 1 + n ≡ suc n
 suc_is n = omega arith
 
-front_yes : {X : Type 0} (p : X → Bool) (x : X) (xs : List X) → p x ≡ true → front_while p (x ∷ xs) ≡ x ∷ front_while p xs
+pub front_yes : {X : Type 0} (p : X → Bool) (x : X) (xs : List X) → p x ≡ true → front_while p (x ∷ xs) ≡ x ∷ front_while p xs
 front_yes p x xs e = rw (e, suc_is (prefix_len p xs)) refl
 
 pub rest_yes : {X : Type 0} (p : X → Bool) (x : X) (xs : List X) → p x ≡ true → rest_after p (x ∷ xs) ≡ rest_after p xs
 rest_yes p x xs e = rw (e, suc_is (prefix_len p xs)) refl
 
-front_no : {X : Type 0} (p : X → Bool) (x : X) (xs : List X) → p x ≡ false → front_while p (x ∷ xs) ≡ []
+pub front_no : {X : Type 0} (p : X → Bool) (x : X) (xs : List X) → p x ≡ false → front_while p (x ∷ xs) ≡ []
 front_no p x xs e = rw e refl
 
 pub rest_no : {X : Type 0} (p : X → Bool) (x : X) (xs : List X) → p x ≡ false → rest_after p (x ∷ xs) ≡ x ∷ xs

@@ -4,7 +4,7 @@ use Rattle.std.specs.List.{flat_map, prefix_len}
 use Rattle.std.proofs.lemmas.Bool.{eqb-true, eqb-false}
 use Rattle.std.proofs.lemmas.List.{append-nil}
 use Rattle.std.proofs.lemmas.List.Concat.{flat_map-append}
-use Rattle.packet_format.specs.declared.Act.{Act}
+use Rattle.packet_format.specs.declared.acts.Act.{Act}
 use Rattle.fault_script.specs.declared.Edit.{Edit}
 use Rattle.script_text.specs.declared.items.Item.{Item}
 use Rattle.script_text.specs.declared.items.Item.TheVariants.{Cycles, Faulty, Asked, Edited, Rejoined}
@@ -23,15 +23,15 @@ rest_with {X} key c d x xs false e h ih =
     let other = eqb-false (key x) c e in
     rw (rest_no (λ y. eqb (key y) c) x xs e) (omega arith, h.1, h.2)
 
-rest_within : {X : Type 0} (key : X → ℕ) (c d : ℕ) (xs : List X) → Within key c d xs → Within key (c + 1) d (rest_after (λ y. eqb (key y) c) xs)
+pub rest_within : {X : Type 0} (key : X → ℕ) (c d : ℕ) (xs : List X) → Within key c d xs → Within key (c + 1) d (rest_after (λ y. eqb (key y) c) xs)
 rest_within key c d [] h = tt
 rest_within key c d (x ∷ xs) h = rest_with key c d x xs (eqb (key x) c) refl h (rest_within key c d xs)
 
-none_within : {X : Type 0} (key : X → ℕ) (c d : ℕ) (xs : List X) → d ≤ c → Within key c d xs → xs ≡ []
+pub none_within : {X : Type 0} (key : X → ℕ) (c d : ℕ) (xs : List X) → d ≤ c → Within key c d xs → xs ≡ []
 none_within key c d [] l h = refl
 none_within key c d (x ∷ xs) l h = let no : ⊥ = omega arith in absurd no
 
-whole : {X : Type 0} (p : X → Bool) (xs : List X) → front_while p xs ++ rest_after p xs ≡ xs
+pub whole : {X : Type 0} (p : X → Bool) (xs : List X) → front_while p xs ++ rest_after p xs ≡ xs
 whole p xs = take-append-drop (prefix_len p xs) xs
 
 -- what the items of one kind add

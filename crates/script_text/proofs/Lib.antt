@@ -5,3 +5,6 @@ pub mod Pieces
 pub mod Canonical
 pub mod Law
 pub mod First
+pub mod Taken
+pub mod Playable
+pub mod InTurn

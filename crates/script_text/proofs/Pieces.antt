@@ -7,8 +7,8 @@ use Rattle.hex.specs.Hex.{encode_with, encode_lower, lower_digits}
 use Rattle.ftpp_base.specs.declared.element.Proc.{Proc}
 use Rattle.packet_format.specs.declared.Packet.{Packet}
 use Rattle.packet_format.specs.declared.Descriptor.{Descriptor}
-use Rattle.packet_format.specs.declared.Act.{Act}
-use Rattle.packet_format.specs.declared.Act.TheVariants.{Post, Read}
+use Rattle.packet_format.specs.declared.acts.Act.{Act}
+use Rattle.packet_format.specs.declared.acts.Act.TheVariants.{Post, Read}
 use Rattle.fault_script.specs.declared.Edit.{Edit}
 use Rattle.script_text.specs.declared.items.Item.TheVariants.{Cycles, Faulty, Asked, Edited, Rejoined}
 use Rattle.script_text.specs.Printing.{joined, behind, proc_word, packet_word, round_word, element_word, act_words, edit_words, item_line}

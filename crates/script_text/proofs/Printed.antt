@@ -16,9 +16,11 @@ use Rattle.std.proofs.lemmas.Str.Parse.{IsNumeralModel, numerals_by_fold}
 use Rattle.script_text.specs.declared.items.Item.{Item}
 use Rattle.script_text.specs.declared.items.Item.TheVariants.{Cycles, Faulty, Asked, Edited, Rejoined}
 use Rattle.script_text.specs.declared.items.SoFar.{SoFar}
+use Rattle.script_words.specs.declared.refusals.Refused.{Refused}
+use Rattle.script_words.specs.declared.refusals.Refused.TheVariants.{RoundOrReceiver, Rejoin}
 use Rattle.script_words.specs.Lines.{is_newline, is_blank, has_bytes, words_of, lines_of}
 use Rattle.script_words.specs.Fields.{is_digit, value_of, number_of, number_to, proc_of, is_word, packet_of, frame_of, bits_of, round_of, other_of, digit_of}
-use Rattle.packet_format.specs.declared.Act.TheVariants.{Post, Read}
+use Rattle.packet_format.specs.declared.acts.Act.TheVariants.{Post, Read}
 use Rattle.packet_format.specs.declared.Packet.{Packet}
 use Rattle.packet_format.specs.Packets.{filled_up}
 use Rattle.hex.specs.Hex.{encode_with, encode_lower, lower_digits, is_hex_digit}
@@ -283,7 +285,7 @@ unfolding packet_word
 packet_again bytes l h =
     let k : ℕ = length bytes - suffix_len (λ b. eqb b 0) bytes in
     front_again (up_to_last bytes) (omega (arith, length-take k bytes)) (bytes_of_front k bytes h)
-    ∙ ap (λ (bs : List ℕ). let r : Result Packet ℕ = Ok (record { bytes = bs }) in r) (refilled bytes 64 l)
+    ∙ ap (λ (bs : List ℕ). let r : Result Packet Refused = Ok (record { bytes = bs }) in r) (refilled bytes 64 l)
 
 packet_stand : (bytes : List ℕ) → AreBytes bytes → IsWord (packet_word bytes)
 unfolding packet_word
@@ -330,10 +332,10 @@ differs e f n = at (eqb e f) refl where
   at true h = absurd (n (eqb-true e f h))
   at false h = refl
 
-other_again : (code a b : ℕ) (rest : List ℕ) (n f : ℕ) (o : Option ℕ) → is_word (a ∷ b ∷ rest) (a ∷ b ∷ rest) ≡ true → n ≤ 5 → IsOther n (Some f) o → other_of code (a ∷ b ∷ rest) n f (element_word (a ∷ b ∷ rest) o) ≡ Ok o
+other_again : (why : Refused) (a b : ℕ) (rest : List ℕ) (n f : ℕ) (o : Option ℕ) → is_word (a ∷ b ∷ rest) (a ∷ b ∷ rest) ≡ true → n ≤ 5 → IsOther n (Some f) o → other_of why (a ∷ b ∷ rest) n f (element_word (a ∷ b ∷ rest) o) ≡ Ok o
 unfolding other_of digit_of
-other_again code a b rest n f None same l h = rw same refl
-other_again code a b rest n f (Some e) same l h =
+other_again why a b rest n f None same l h = rw same refl
+other_again why a b rest n f (Some e) same l h =
     rw (decimal_digit e (omega arith), one_letter (48 + e) a b rest, digit_byte e (omega arith), digit_back e, lt-ltb e n h.0, differs e f h.1) refl
 
 element_stand : (name : List ℕ) (n : ℕ) (f o : Option ℕ) → IsWord name → n ≤ 5 → IsOther n f o → IsWord (element_word name o)
@@ -355,7 +357,7 @@ edit_again : (s : SoFar) (at : ℕ) (round : Option Round) (to : Option ℕ) (wh
 unfolding edit_line
 edit_again s at round to what None f h n = absurd h
 edit_again s at round to what (Some e) f h n =
-    rw (f, round_again round, other_again 8 97 108 (108 ∷ []) s.n e to refl n h) refl
+    rw (f, round_again round, other_again RoundOrReceiver 97 108 (108 ∷ []) s.n e to refl n h) refl
 
 offset_again : (n : ℕ) → n ≤ 330 → number_to 330 (decimal n) ≡ Ok n
 unfolding number_to
@@ -391,7 +393,7 @@ rejoined_with s c next None f g e r w follows new h n = absurd r
 rejoined_with s c next (Some total) f None e r w follows new h n = absurd h
 rejoined_with s c next (Some total) f (Some x) e r w follows new h n =
     let within : ltb c total ≡ true = lt-ltb c total r in
-    rw (f, number_again c w, within, follows, new, e, other_again 15 110 111 (110 ∷ 101 ∷ []) s.n x next refl n h) refl
+    rw (f, number_again c w, within, follows, new, e, other_again Rejoin 110 111 (110 ∷ 101 ∷ []) s.n x next refl n h) refl
 
 -- an item that may come next is read back
 pub item_again : (s : SoFar) (item : Item) → s.n ≤ 5 → IsNext s item → line_read s (item_words item) ≡ Ok (Some item)

@@ -14,6 +14,8 @@ use Rattle.script_text.specs.declared.Script.{Script}
 use Rattle.script_text.specs.declared.reading.Reader.{Reader}
 use Rattle.script_text.specs.declared.ScriptError.{ScriptError}
 use Rattle.script_text.specs.declared.ScriptError.TheVariants.{At, Memory}
+use Rattle.script_words.specs.declared.refusals.Refused.{Refused}
+use Rattle.script_words.specs.Refusals.{refused_code}
 use Rattle.script_words.specs.Lines.{is_newline, words_of, lines_of, pieces_left}
 use Rattle.script_text.specs.Items.{before, cycles_in, named_in, last_in, asked_in, acts_in, acts_of, edits_in, edits_of, rejoins_in, rejoins_of, faulty_in, asked_of}
 use Rattle.script_text.specs.Judged.{InOrder, after, asked_at, is_this, may_follow, line_read}
@@ -30,7 +32,7 @@ asked_with (Some last) items c later h = at (eqb last c) refl where
       sym (later c (omega arith))
 
 -- the posts and reads of a cycle that may follow are those that are known
-asked_here : (n : ℕ) (items : List Item) (c : ℕ) → ((d : ℕ) → IsLater (last_in items) d → asked_in d items ≡ 0) → IsTrue (may_follow (last_in items) c) → asked_at (before n items) c ≡ asked_in c items
+pub asked_here : (n : ℕ) (items : List Item) (c : ℕ) → ((d : ℕ) → IsLater (last_in items) d → asked_in d items ≡ 0) → IsTrue (may_follow (last_in items) c) → asked_at (before n items) c ≡ asked_in c items
 unfolding asked_at before
 asked_here n items c later h = asked_with (last_in items) items c later h
 
@@ -67,7 +69,7 @@ other_cycle c d m l e = at (eqb c d) refl where
   at true h = let same : c ≡ d = eqb-true c d h in omega arith
   at false h = omega arith
 
-later-still : (n : ℕ) (items : List Item) (item : Item) → ((c : ℕ) → IsLater (last_in items) c → asked_in c items ≡ 0) → InOrder (before n items) item → (c : ℕ) → IsLater (last_in (item ∷ items)) c → asked_in c (item ∷ items) ≡ 0
+pub later-still : (n : ℕ) (items : List Item) (item : Item) → ((c : ℕ) → IsLater (last_in items) c → asked_in c items ≡ 0) → InOrder (before n items) item → (c : ℕ) → IsLater (last_in (item ∷ items)) c → asked_in c (item ∷ items) ≡ 0
 unfolding before
 later-still n items (Cycles c) later h = later
 later-still n items (Faulty e) later h = later
@@ -102,11 +104,11 @@ pub goes : (n : ℕ) (items : List Item) (line : ℕ) (front : List ℕ) (more :
 unfolding items_from
 goes n items line front more item e = rw e refl
 
-stops : (n : ℕ) (items : List Item) (line : ℕ) (front : List ℕ) (more : List (List ℕ)) (code : ℕ) → line_read (before n items) (words_of front) ≡ Err code → items_from n items line (front ∷ more) ≡ Err (record { line = line; code = code })
+stops : (n : ℕ) (items : List Item) (line : ℕ) (front : List ℕ) (more : List (List ℕ)) (why : Refused) → line_read (before n items) (words_of front) ≡ Err why → items_from n items line (front ∷ more) ≡ Err (record { line = line; code = refused_code why })
 unfolding items_from
-stops n items line front more code e = rw e refl
+stops n items line front more why e = rw e refl
 
-walk_with : (n : ℕ) (bytes : List ℕ) (old new : Reader) (text front : List ℕ) (rest : Option (List ℕ)) (line : ℕ) (read : Result (Option Item) ℕ) → (w : Walks n bytes old (Some text) line) → slice_split is_newline text ≡ front ∷ pieces_left rest → line_read (before n w.items) (words_of (strip_carriage_return front)) ≡ read → Takes old read (line + 1) (Ok tt) new → Walks n bytes new rest (line + 1)
+walk_with : (n : ℕ) (bytes : List ℕ) (old new : Reader) (text front : List ℕ) (rest : Option (List ℕ)) (line : ℕ) (read : Result (Option Item) Refused) → (w : Walks n bytes old (Some text) line) → slice_split is_newline text ≡ front ∷ pieces_left rest → line_read (before n w.items) (words_of (strip_carriage_return front)) ≡ read → Takes old read (line + 1) (Ok tt) new → Walks n bytes new rest (line + 1)
 walk_with n bytes old new text front rest line (Err code) w cut e h = absurd cc
 walk_with n bytes old new text front rest line (Ok None) w cut e h =
     record {
@@ -127,11 +129,11 @@ pub walk_on : (n : ℕ) (bytes : List ℕ) (old new : Reader) (text front : List
 walk_on n bytes old new text front rest line w cut h =
     walk_with n bytes old new text front rest line (line_read old.so_far (words_of (strip_carriage_return front))) w cut (ap (λ s. line_read s (words_of (strip_carriage_return front))) (sym w.stands.so_far)) h
 
-end_with : (n : ℕ) (bytes : List ℕ) (old new : Reader) (text front : List ℕ) (rest : Option (List ℕ)) (line : ℕ) (read : Result (Option Item) ℕ) (why : ScriptError) → (w : Walks n bytes old (Some text) line) → slice_split is_newline text ≡ front ∷ pieces_left rest → line_read (before n w.items) (words_of (strip_carriage_return front)) ≡ read → Takes old read (line + 1) (Err why) new → TakesAll n bytes (Err why) new
+end_with : (n : ℕ) (bytes : List ℕ) (old new : Reader) (text front : List ℕ) (rest : Option (List ℕ)) (line : ℕ) (read : Result (Option Item) Refused) (why : ScriptError) → (w : Walks n bytes old (Some text) line) → slice_split is_newline text ≡ front ∷ pieces_left rest → line_read (before n w.items) (words_of (strip_carriage_return front)) ≡ read → Takes old read (line + 1) (Err why) new → TakesAll n bytes (Err why) new
 end_with n bytes old new text front rest line (Err code) Memory w cut e h = tt
 end_with n bytes old new text front rest line (Err code) (At l k) w cut e h =
     let is-line : l ≡ line + 1 = cc in
-    let is-code : k ≡ code = cc in
+    let is-code : k ≡ refused_code code = cc in
     rw (is-line, is-code) (sym w.same ∙ ap (λ ps. items_from n w.items (line + 1) (map strip_carriage_return ps)) cut ∙ stops n w.items (line + 1) (strip_carriage_return front) (map strip_carriage_return (pieces_left rest)) code e)
 end_with n bytes old new text front rest line (Ok None) why w cut e h = absurd cc
 end_with n bytes old new text front rest line (Ok (Some item)) Memory w cut e h = tt

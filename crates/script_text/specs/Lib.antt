@@ -2,3 +2,4 @@ pub mod Items
 pub mod Judged
 pub mod Reading
 pub mod Printing
+pub mod Playable

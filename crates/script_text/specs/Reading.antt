@@ -1,11 +1,14 @@
 -- A script as its lines say, or its first refused line with its first code.
 use Rattle.std.specs.Prelude.{◌≡◌, ℕ, ◌+◌, ◌<◌, ◌++◌, ◌⊎◌, length, List, [], ◌∷◌, count_by, Option, Some, None, Result, Ok, Err}
-use Rattle.packet_format.specs.declared.Act.{Act}
+use Rattle.packet_format.specs.declared.acts.Act.{Act}
 use Rattle.script_text.specs.declared.items.Item.{Item}
 use Rattle.fault_script.specs.declared.Edit.{Edit}
 use Rattle.script_text.specs.declared.Script.{Script}
 use Rattle.script_text.specs.declared.ScriptError.{ScriptError}
 use Rattle.script_text.specs.declared.ScriptError.TheVariants.{At, Memory}
+use Rattle.script_words.specs.declared.refusals.Refused.{Refused}
+use Rattle.script_words.specs.declared.refusals.Refused.TheVariants.{NoCycles}
+use Rattle.script_words.specs.Refusals.{refused_code}
 use Rattle.script_words.specs.Lines.{is_newline, words_of, lines_of}
 use Rattle.script_words.specs.Fields.{◌>>=◌}
 use Rattle.script_text.specs.Items.{cycles_in, named_in, last_in, asked_in, acts_of, acts_in, edits_of, edits_in, rejoins_of, rejoins_in, before}
@@ -29,9 +32,9 @@ abbrev pub plan_of : Script → Plan
 plan_of s = record { cycles = s.cycles; faulty = s.faulty; acts = s.acts.items; edits = s.edits.items; rejoins = s.rejoins.items }
 
 -- the code is that of this line
-abbrev pub at_line : {A : Type 0} → ℕ → Result A ℕ → Result A Refusal
+abbrev pub at_line : {A : Type 0} → ℕ → Result A Refused → Result A Refusal
 at_line line (Ok x) = Ok x
-at_line line (Err code) = Err (record { line = line; code = code })
+at_line line (Err why) = Err (record { line = line; code = refused_code why })
 
 -- with the item of one line more
 abbrev pub onto : Option Item → List Item → List Item
@@ -49,7 +52,7 @@ abbrev pub plan_with_items : ℕ → List Item → Plan
 plan_with_items cycles items = record { cycles = cycles; faulty = named_in items; acts = acts_in items; edits = edits_in items; rejoins = rejoins_in items }
 
 abbrev pub plan_from : ℕ → List Item → Option ℕ → Result Plan Refusal
-plan_from last items None = Err (record { line = last; code = 10 })
+plan_from last items None = Err (record { line = last; code = refused_code NoCycles })
 plan_from last items (Some cycles) = Ok (plan_with_items cycles items)
 
 -- the script of a text for n elements
@@ -67,11 +70,13 @@ pub record IsFirstRefused (n : ℕ) (lines : List (List ℕ)) (r : Refusal) : Ty
   pub parts : lines ≡ front ++ words ∷ back
   pub place : r.line ≡ 1 + length front
   pub accepted : items_from n [] 1 front ≡ Ok items
-  pub refused : line_read (before n items) (words_of words) ≡ Err r.code
+  pub why : Refused
+  pub refused : line_read (before n items) (words_of words) ≡ Err why
+  pub code : r.code ≡ refused_code why
 
 -- a refusal is that of the first refused line, or of the end without a line of cycles
 abbrev pub TellsFirst : ℕ → List ℕ → Refusal → Type 0
-TellsFirst n bytes r = IsFirstRefused n (lines_of bytes) r ⊎ ((r.line ≡ 1 + count_by is_newline bytes) × (r.code ≡ 10))
+TellsFirst n bytes r = IsFirstRefused n (lines_of bytes) r ⊎ ((r.line ≡ 1 + count_by is_newline bytes) × (r.code ≡ refused_code NoCycles))
 
 abbrev pub RefusesFirst : ℕ → List ℕ → Result Script ScriptError → Type 0
 RefusesFirst n bytes (Ok script) = Unit {0}
@@ -110,8 +115,8 @@ KeepsIfRoom old item (Ok u) new = Keeps old item new
 KeepsIfRoom old item (Err e) new = e ≡ Memory
 
 -- what a line does to a reader
-abbrev pub Takes : Reader → Result (Option Item) ℕ → ℕ → Result Unit ScriptError → Reader → Type 0
-Takes old (Err code) line r new = r ≡ Err (At line code)
+abbrev pub Takes : Reader → Result (Option Item) Refused → ℕ → Result Unit ScriptError → Reader → Type 0
+Takes old (Err why) line r new = r ≡ Err (At line (refused_code why))
 Takes old (Ok None) line r new = (r ≡ Ok tt) × (new ≡ old)
 Takes old (Ok (Some item)) line r new = InOrder old.so_far item × KeepsIfRoom old item r new
 
@@ -123,7 +128,7 @@ TakesAll n bytes (Err (At line code)) new = items_from n [] 1 (lines_of bytes) �
 
 -- the script that a reader holds after the last line
 abbrev pub plan_with : ℕ → Option ℕ → Option ℕ → List (ℕ × Act) → List Edit → List (ℕ × Option ℕ) → Result Plan Refusal
-plan_with last None named acts edits rejoins = Err (record { line = last; code = 10 })
+plan_with last None named acts edits rejoins = Err (record { line = last; code = refused_code NoCycles })
 plan_with last (Some cycles) named acts edits rejoins = Ok (record { cycles = cycles; faulty = named; acts = acts; edits = edits; rejoins = rejoins })
 
 abbrev pub plan_held : ℕ → Reader → Result Plan Refusal

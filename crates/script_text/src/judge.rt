@@ -1,4 +1,4 @@
-//! A line as what it says, or the first code that refuses it.
+//! A line as what it says, or the first test that it fails.
 //!
 //! Each form has a function of its own that makes the tests in the order of the codes.
 
@@ -9,11 +9,9 @@ ghost use Rattle.script_words.specs.Lines.{words_of, is_skipped};
 
 use crate::items::{Item, SoFar};
 use fault_script::{Edit, EditKind};
-use ftpp_base::Ne;
-use packet_format::{Act, Descriptor};
-use script_words::codes::{
-    CYCLE, CYCLES_LINE, FAULTY, NO_FORM, NUMBER, REJOIN, ROUND_OR_RECEIVER, TOO_MANY_ACTS,
-};
+use ftpp_base::{MOST_CYCLES, Ne};
+use packet_format::{Act, Descriptor, MOST_ACTS};
+use script_words::Refused;
 use script_words::fields::{
     bits, byte, frame, is_named, number, offset, other, packet, processor, round,
 };
@@ -21,30 +19,30 @@ use script_words::lines::{without_carriage_return, words};
 
 impl SoFar {
     /// The length of the run, which must have been said.
-    fn total(&self) -> Result<u32, u8>
+    fn total(&self) -> Result<u32, Refused>
         ensures { result ≡ total_of self.now }
     {
         match self.cycles {
-            None => Err(CYCLES_LINE),
+            None => Err(Refused::CyclesLine),
             Some(total) => Ok(total),
         }
     }
 
     /// The cycle of a line, which must be one of the run and not before that of the line before.
     #[tactic(auto, unfolding(crate::specs::Judged::in_order))]
-    fn ordered(&self, total: u32, c: u64) -> Result<u32, u8>
+    fn ordered(&self, total: u32, c: u64) -> Result<u32, Refused>
         ensures value { result ≡ in_order self.now total c }
         ensures follows { IfOk result (λ at. IsTrue (may_follow self.now.last at)) }
     {
         if c >= u64::from(total) {
-            return Err(CYCLE);
+            return Err(Refused::Cycle);
         }
         let c = c as u32;
         match self.last {
             None => Ok(c),
             Some(last) => {
                 if c < last {
-                    return Err(CYCLE);
+                    return Err(Refused::Cycle);
                 }
                 Ok(c)
             }
@@ -62,38 +60,38 @@ impl SoFar {
         }
     }
 
-    /// A post or a read, of which a cycle may have 80.
+    /// A post or a read, of which a cycle may have `MOST_ACTS`.
     #[tactic(auto, unfolding(crate::specs::Judged::with_room))]
-    fn with_room(&self, c: u32, act: Act) -> Result<Item, u8>
+    fn with_room(&self, c: u32, act: Act) -> Result<Item, Refused>
         requires { IsTrue (may_follow self.now.last c) }
         ensures value { result ≡ with_room self.now c act }
         ensures order { IfOk result (InOrder self.now) }
     {
-        if self.asked_at(c) >= 80 {
-            return Err(TOO_MANY_ACTS);
+        if self.asked_at(c) as usize >= MOST_ACTS {
+            return Err(Refused::TooManyActs);
         }
         Ok(Item::Asked(c, act))
     }
 
     /// `cycles C`
     #[tactic(auto, unfolding(crate::specs::Judged::cycles_line))]
-    fn cycles_item(&self, count: &[u8]) -> Result<Item, u8>
+    fn cycles_item(&self, count: &[u8]) -> Result<Item, Refused>
         ensures value { result ≡ cycles_line self.now count.now }
         ensures order { IfOk result (InOrder self.now) }
     {
         if self.cycles.is_some() {
-            return Err(CYCLES_LINE);
+            return Err(Refused::CyclesLine);
         }
         let c = number(count)?;
-        if c < 1 || c > 100000 {
-            return Err(NUMBER);
+        if c < 1 || c > u64::from(MOST_CYCLES) {
+            return Err(Refused::Number);
         }
         Ok(Item::Cycles(c as u32))
     }
 
     /// `faulty E`
     #[tactic(auto, unfolding(crate::specs::Judged::faulty_line))]
-    fn faulty_item(&self, element: &[u8]) -> Result<Item, u8>
+    fn faulty_item(&self, element: &[u8]) -> Result<Item, Refused>
         requires { self.now.n ≤ 5 }
         ensures value { result ≡ faulty_line self.now element.now }
         ensures order { IfOk result (InOrder self.now) }
@@ -101,17 +99,17 @@ impl SoFar {
         self.total()?;
         let e = byte(element)?;
         if self.named.is_some() || self.last.is_some() {
-            return Err(FAULTY);
+            return Err(Refused::FaultyLine);
         }
         match Ne::new(e, self.n) {
-            None => Err(FAULTY),
+            None => Err(Refused::FaultyLine),
             Some(e) => Ok(Item::Faulty(e)),
         }
     }
 
     /// `at C read E.P`
     #[tactic(auto, unfolding(crate::specs::Judged::read_line))]
-    fn read_item(&self, cycle: &[u8], proc: &[u8]) -> Result<Item, u8>
+    fn read_item(&self, cycle: &[u8], proc: &[u8]) -> Result<Item, Refused>
         ensures value { result ≡ read_line self.now cycle.now proc.now }
         ensures order { IfOk result (InOrder self.now) }
     {
@@ -132,7 +130,7 @@ impl SoFar {
         class: &[u8],
         source: &[u8],
         bytes: &[u8],
-    ) -> Result<Item, u8>
+    ) -> Result<Item, Refused>
         ensures value { result ≡ post_line self.now cycle.now proc.now dest.now class.now source.now bytes.now }
         ensures order { IfOk result (InOrder self.now) }
     {
@@ -152,12 +150,12 @@ impl SoFar {
         self.with_room(at, Act::Post { proc, desc, packet })
     }
 
-    /// The element that is faulty now, or the code that is given where none is.
-    fn acting(&self, code: u8) -> Result<Ne, u8>
-        ensures { result ≡ acting_from code self.now.faulty }
+    /// The element that is faulty now, or the refusal that is given where none is.
+    fn acting(&self, refused: Refused) -> Result<Ne, Refused>
+        ensures { result ≡ acting_from refused self.now.faulty }
     {
         match self.faulty {
-            None => Err(code),
+            None => Err(refused),
             Some(f) => Ok(f),
         }
     }
@@ -170,15 +168,15 @@ impl SoFar {
         round_word: &[u8],
         to_word: &[u8],
         what: EditKind,
-    ) -> Result<Item, u8>
+    ) -> Result<Item, Refused>
         requires elements { self.now.n ≤ 5 }
         requires follows { IsTrue (may_follow self.now.last at) }
         ensures value { result ≡ edit_line self.now at round_word.now to_word.now what }
         ensures order { IfOk result (InOrder self.now) }
     {
-        let f = self.acting(FAULTY)?;
+        let f = self.acting(Refused::FaultyLine)?;
         let round = round(round_word)?;
-        let to = other(ROUND_OR_RECEIVER, b"all", self.n, f, to_word)?;
+        let to = other(Refused::RoundOrReceiver, b"all", self.n, f, to_word)?;
         Ok(Item::Edited(Edit {
             cycle: at,
             round,
@@ -189,7 +187,7 @@ impl SoFar {
 
     /// `at C drop ROUND TO`
     #[tactic(auto, unfolding(crate::specs::Judged::drop_line))]
-    fn drop_item(&self, cycle: &[u8], round: &[u8], to: &[u8]) -> Result<Item, u8>
+    fn drop_item(&self, cycle: &[u8], round: &[u8], to: &[u8]) -> Result<Item, Refused>
         requires { self.now.n ≤ 5 }
         ensures value { result ≡ drop_line self.now cycle.now round.now to.now }
         ensures order { IfOk result (InOrder self.now) }
@@ -202,7 +200,7 @@ impl SoFar {
 
     /// `at C repeat ROUND TO`
     #[tactic(auto, unfolding(crate::specs::Judged::repeat_line))]
-    fn repeat_item(&self, cycle: &[u8], round: &[u8], to: &[u8]) -> Result<Item, u8>
+    fn repeat_item(&self, cycle: &[u8], round: &[u8], to: &[u8]) -> Result<Item, Refused>
         requires { self.now.n ≤ 5 }
         ensures value { result ≡ repeat_line self.now cycle.now round.now to.now }
         ensures order { IfOk result (InOrder self.now) }
@@ -222,7 +220,7 @@ impl SoFar {
         to: &[u8],
         place: &[u8],
         change: &[u8],
-    ) -> Result<Item, u8>
+    ) -> Result<Item, Refused>
         requires { self.now.n ≤ 5 }
         ensures value { result ≡ flip_line self.now cycle.now round.now to.now place.now change.now }
         ensures order { IfOk result (InOrder self.now) }
@@ -237,7 +235,13 @@ impl SoFar {
 
     /// `at C send ROUND TO FRAME`
     #[tactic(auto, unfolding(crate::specs::Judged::send_line))]
-    fn send_item(&self, cycle: &[u8], round: &[u8], to: &[u8], bytes: &[u8]) -> Result<Item, u8>
+    fn send_item(
+        &self,
+        cycle: &[u8],
+        round: &[u8],
+        to: &[u8],
+        bytes: &[u8],
+    ) -> Result<Item, Refused>
         requires { self.now.n ≤ 5 }
         ensures value { result ≡ send_line self.now cycle.now round.now to.now bytes.now }
         ensures order { IfOk result (InOrder self.now) }
@@ -250,23 +254,23 @@ impl SoFar {
     }
 
     /// The element that rejoins, in the first line of a cycle.
-    fn leaving(&self, at: u32) -> Result<Ne, u8>
+    fn leaving(&self, at: u32) -> Result<Ne, Refused>
         ensures { result ≡ leaving self.now at }
     {
         match self.last {
-            None => self.acting(REJOIN),
+            None => self.acting(Refused::Rejoin),
             Some(last) => {
                 if last == at {
-                    return Err(REJOIN);
+                    return Err(Refused::Rejoin);
                 }
-                self.acting(REJOIN)
+                self.acting(Refused::Rejoin)
             }
         }
     }
 
     /// `at C rejoin NEXT`
     #[tactic(auto, unfolding(crate::specs::Judged::rejoin_line))]
-    fn rejoin_item(&self, cycle: &[u8], next: &[u8]) -> Result<Item, u8>
+    fn rejoin_item(&self, cycle: &[u8], next: &[u8]) -> Result<Item, Refused>
         requires { self.now.n ≤ 5 }
         ensures value { result ≡ rejoin_line self.now cycle.now next.now }
         ensures order { IfOk result (InOrder self.now) }
@@ -275,13 +279,13 @@ impl SoFar {
         let c = number(cycle)?;
         let at = self.ordered(total, c)?;
         let f = self.leaving(at)?;
-        let e = other(REJOIN, b"none", self.n, f, next)?;
+        let e = other(Refused::Rejoin, b"none", self.n, f, next)?;
         Ok(Item::Rejoined(at, e))
     }
 
     /// A line of a cycle, by its name and the words behind it.
     #[tactic(auto, unfolding(crate::specs::Judged::at_item))]
-    fn at_item(&self, cycle: &[u8], name: &[u8], words: &[&[u8]]) -> Result<Item, u8>
+    fn at_item(&self, cycle: &[u8], name: &[u8], words: &[&[u8]]) -> Result<Item, Refused>
         requires { self.now.n ≤ 5 }
         ensures value { result ≡ at_item self.now cycle.now name.now (map (λ w. w.now) words.now) }
         ensures order { IfOk result (InOrder self.now) }
@@ -294,7 +298,7 @@ impl SoFar {
                 if is_named(name, b"rejoin") {
                     return self.rejoin_item(cycle, p);
                 }
-                Err(NO_FORM)
+                Err(Refused::NoForm)
             }
             [r, t] => {
                 if is_named(name, b"drop") {
@@ -303,33 +307,33 @@ impl SoFar {
                 if is_named(name, b"repeat") {
                     return self.repeat_item(cycle, r, t);
                 }
-                Err(NO_FORM)
+                Err(Refused::NoForm)
             }
             [r, t, x] => {
                 if is_named(name, b"send") {
                     return self.send_item(cycle, r, t, x);
                 }
-                Err(NO_FORM)
+                Err(Refused::NoForm)
             }
             [r, t, o, b] => {
                 if is_named(name, b"flip") {
                     return self.flip_item(cycle, r, t, o, b);
                 }
-                Err(NO_FORM)
+                Err(Refused::NoForm)
             }
             [p, d, k, i, x] => {
                 if is_named(name, b"post") {
                     return self.post_item(cycle, p, d, k, i, x);
                 }
-                Err(NO_FORM)
+                Err(Refused::NoForm)
             }
-            _ => Err(NO_FORM),
+            _ => Err(Refused::NoForm),
         }
     }
 
     /// A line that is not skipped, by its words.
     #[tactic(auto, unfolding(crate::specs::Judged::line_item))]
-    fn item(&self, words: &[&[u8]]) -> Result<Item, u8>
+    fn item(&self, words: &[&[u8]]) -> Result<Item, Refused>
         requires { self.now.n ≤ 5 }
         ensures value { result ≡ line_item self.now (map (λ w. w.now) words.now) }
         ensures order { IfOk result (InOrder self.now) }
@@ -342,21 +346,21 @@ impl SoFar {
                 if is_named(a, b"faulty") {
                     return self.faulty_item(b);
                 }
-                Err(NO_FORM)
+                Err(Refused::NoForm)
             }
             [a, c, name, more @ ..] => {
                 if is_named(a, b"at") {
                     return self.at_item(c, name, more);
                 }
-                Err(NO_FORM)
+                Err(Refused::NoForm)
             }
-            _ => Err(NO_FORM),
+            _ => Err(Refused::NoForm),
         }
     }
 
     /// A line by its words, None where it is skipped.
     #[tactic(auto, unfolding(crate::specs::Judged::line_read))]
-    fn words_item(&self, words: &[&[u8]]) -> Result<Option<Item>, u8>
+    fn words_item(&self, words: &[&[u8]]) -> Result<Option<Item>, Refused>
         requires { self.now.n ≤ 5 }
         ensures value { result ≡ line_read self.now (map (λ w. w.now) words.now) }
         ensures order { IfOk result (λ item. IfSome item (InOrder self.now)) }
@@ -373,7 +377,7 @@ impl SoFar {
 
     /// What a line says, None where it is skipped.
     #[tactic(auto, using(crate::proofs::Forms::line_read_take))]
-    pub(crate) fn line(&self, line: &[u8]) -> Result<Option<Item>, u8>
+    pub(crate) fn line(&self, line: &[u8]) -> Result<Option<Item>, Refused>
         requires { self.now.n ≤ 5 }
         ensures value { result ≡ line_read self.now (words_of (strip_carriage_return line.now)) }
         ensures order { IfOk result (λ item. IfSome item (InOrder self.now)) }

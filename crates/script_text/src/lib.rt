@@ -4,6 +4,7 @@
 
 mod items;
 mod judge;
+pub mod laws;
 mod print;
 mod reading;
 #[cfg(test)]

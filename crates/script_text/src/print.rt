@@ -22,6 +22,7 @@ fn word(out: &mut Vec<u8>, word: &[u8]) -> Result<(), AllocError>
     out.extend_from_slice(word)
 }
 
+/// A space and a number.
 fn number(out: &mut Vec<u8>, n: u32) -> Result<(), AllocError>
     ensures { OnOk result (out.new.items ≡ out.old.items ++ 32 ∷ decimal n) }
 {
@@ -29,6 +30,7 @@ fn number(out: &mut Vec<u8>, n: u32) -> Result<(), AllocError>
     word(out, buffer.format(n).as_bytes())
 }
 
+/// A number right behind what stands there.
 fn digit_number(out: &mut Vec<u8>, n: u8) -> Result<(), AllocError>
     ensures { OnOk result (out.new.items ≡ out.old.items ++ decimal n) }
 {
@@ -36,6 +38,7 @@ fn digit_number(out: &mut Vec<u8>, n: u8) -> Result<(), AllocError>
     out.extend_from_slice(buffer.format(n).as_bytes())
 }
 
+/// A space, the element, a dot and the port.
 #[tactic(auto, using(crate::proofs::Pieces::proc_pieces))]
 fn proc(out: &mut Vec<u8>, p: Proc) -> Result<(), AllocError>
     ensures { OnOk result (out.new.items ≡ out.old.items ++ 32 ∷ proc_word p) }
@@ -46,8 +49,10 @@ fn proc(out: &mut Vec<u8>, p: Proc) -> Result<(), AllocError>
     digit_number(out, p.port)
 }
 
+/// The hexadecimal digits.
 static DIGITS: [u8; 16] = *b"0123456789abcdef";
 
+/// A byte as two digits.
 #[tactic(auto, using(crate::proofs::Pieces::pair_of))]
 fn pair(out: &mut Vec<u8>, b: u8) -> Result<(), AllocError>
     ensures { OnOk result (out.new.items ≡ out.old.items ++ encode_lower (b ∷ [])) }
@@ -59,6 +64,7 @@ fn pair(out: &mut Vec<u8>, b: u8) -> Result<(), AllocError>
     Ok(())
 }
 
+/// Bytes as pairs of digits.
 #[tactic(auto, using(crate::proofs::Pieces::encode_more, crate::proofs::Pieces::encode_none))]
 fn digits(out: &mut Vec<u8>, bytes: &[u8]) -> Result<(), AllocError>
     ensures { OnOk result (out.new.items ≡ out.old.items ++ encode_lower bytes.now) }
@@ -69,6 +75,7 @@ fn digits(out: &mut Vec<u8>, bytes: &[u8]) -> Result<(), AllocError>
     Ok(())
 }
 
+/// A space, and bytes as pairs of digits, or a dash for none.
 fn byte_row(out: &mut Vec<u8>, bytes: &[u8]) -> Result<(), AllocError>
     ensures { OnOk result (out.new.items ≡ out.old.items ++ 32 ∷ bytes_word bytes.now) }
 {
@@ -90,6 +97,7 @@ fn up_to_last_byte(bytes: &[u8]) -> &[u8]
     &bytes[..len]
 }
 
+/// A space and a packet up to its last byte that is not 0.
 #[tactic(auto, unfolding(crate::specs::Printing::packet_word))]
 fn packet(out: &mut Vec<u8>, x: &Packet) -> Result<(), AllocError>
     ensures { OnOk result (out.new.items ≡ out.old.items ++ 32 ∷ packet_word x.now.bytes) }
@@ -97,6 +105,7 @@ fn packet(out: &mut Vec<u8>, x: &Packet) -> Result<(), AllocError>
     byte_row(out, up_to_last_byte(&x.bytes))
 }
 
+/// A space and a round, `any` for all of them.
 fn round(out: &mut Vec<u8>, r: Option<Round>) -> Result<(), AllocError>
     ensures { OnOk result (out.new.items ≡ out.old.items ++ 32 ∷ round_word r) }
 {
@@ -109,6 +118,7 @@ fn round(out: &mut Vec<u8>, r: Option<Round>) -> Result<(), AllocError>
     }
 }
 
+/// A space and an element, or the name that stands for none.
 fn element(out: &mut Vec<u8>, name: &[u8], e: &Option<Ne>) -> Result<(), AllocError>
     ensures { OnOk result (out.new.items ≡ out.old.items ++ 32 ∷ element_word name.now e.now) }
 {
@@ -118,6 +128,7 @@ fn element(out: &mut Vec<u8>, name: &[u8], e: &Option<Ne>) -> Result<(), AllocEr
     }
 }
 
+/// An act behind its cycle.
 #[tactic(auto, using(crate::proofs::Pieces::read_pieces, crate::proofs::Pieces::post_pieces))]
 fn act(out: &mut Vec<u8>, act: &Act) -> Result<(), AllocError>
     ensures { OnOk result (out.new.items ≡ out.old.items ++ behind (act_words act.now)) }
@@ -142,6 +153,7 @@ fn act(out: &mut Vec<u8>, act: &Act) -> Result<(), AllocError>
     }
 }
 
+/// An edit behind its cycle.
 #[tactic(auto, using(crate::proofs::Pieces::three_last, crate::proofs::Pieces::four_last, crate::proofs::Pieces::five_last))]
 fn edit(out: &mut Vec<u8>, e: &Edit) -> Result<(), AllocError>
     ensures { OnOk result (out.new.items ≡ out.old.items ++ behind (edit_words (round_word e.now.round) (element_word (codes "all") e.now.to) e.now.what)) }
@@ -174,6 +186,7 @@ fn edit(out: &mut Vec<u8>, e: &Edit) -> Result<(), AllocError>
     }
 }
 
+/// The line of the run's length.
 #[tactic(auto, using(crate::proofs::Pieces::cycles_pieces))]
 fn cycles_line(out: &mut Vec<u8>, c: u32) -> Result<(), AllocError>
     ensures { OnOk result (out.new.items ≡ out.old.items ++ item_line (Cycles c)) }
@@ -184,6 +197,7 @@ fn cycles_line(out: &mut Vec<u8>, c: u32) -> Result<(), AllocError>
     Ok(())
 }
 
+/// The line of the element that is faulty from the start on.
 #[tactic(auto, using(crate::proofs::Pieces::faulty_pieces))]
 fn faulty_line(out: &mut Vec<u8>, e: Ne) -> Result<(), AllocError>
     ensures { OnOk result (out.new.items ≡ out.old.items ++ item_line (Faulty e)) }
@@ -194,6 +208,7 @@ fn faulty_line(out: &mut Vec<u8>, e: Ne) -> Result<(), AllocError>
     Ok(())
 }
 
+/// The first two words of a line of a cycle.
 fn at(out: &mut Vec<u8>, c: u32) -> Result<(), AllocError>
     ensures { OnOk result (out.new.items ≡ (out.old.items ++ codes "at") ++ 32 ∷ decimal c) }
 {
@@ -201,6 +216,7 @@ fn at(out: &mut Vec<u8>, c: u32) -> Result<(), AllocError>
     number(out, c)
 }
 
+/// The line of an act.
 #[tactic(auto, using(crate::proofs::Pieces::asked_pieces))]
 fn asked_line(out: &mut Vec<u8>, c: u32, a: &Act) -> Result<(), AllocError>
     ensures { OnOk result (out.new.items ≡ out.old.items ++ item_line (Asked c a.now)) }
@@ -211,6 +227,7 @@ fn asked_line(out: &mut Vec<u8>, c: u32, a: &Act) -> Result<(), AllocError>
     Ok(())
 }
 
+/// The line of an edit.
 #[tactic(auto, using(crate::proofs::Pieces::edited_pieces))]
 fn edited_line(out: &mut Vec<u8>, e: &Edit) -> Result<(), AllocError>
     ensures { OnOk result (out.new.items ≡ out.old.items ++ item_line (Edited e.now)) }
@@ -221,6 +238,7 @@ fn edited_line(out: &mut Vec<u8>, e: &Edit) -> Result<(), AllocError>
     Ok(())
 }
 
+/// The line of a rejoin.
 #[tactic(auto, using(crate::proofs::Pieces::rejoined_pieces))]
 fn rejoined_line(out: &mut Vec<u8>, c: u32, next: &Option<Ne>) -> Result<(), AllocError>
     ensures { OnOk result (out.new.items ≡ out.old.items ++ item_line (Rejoined c next.now)) }
@@ -288,6 +306,7 @@ fn rejoins_at<'a>(
     Ok(rest)
 }
 
+/// The line of the element that is faulty from the start on, if there is one.
 #[tactic(auto, using(crate::proofs::Canonical::named_none, crate::proofs::Canonical::named_some))]
 fn named_line(out: &mut Vec<u8>, faulty: &Option<Ne>) -> Result<(), AllocError>
     ensures { OnOk result (out.new.items ≡ out.old.items ++ text_of (named_items faulty.now)) }

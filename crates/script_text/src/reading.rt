@@ -1,12 +1,15 @@
 //! A script, line by line.
 
-ghost use Rattle.std.specs.Prelude.{◌≡◌, ◌+◌, ◌<◌, ◌≤◌, [], length, OnOk};
+ghost use Rattle.std.specs.Prelude.{◌≡◌, ◌+◌, ◌<◌, ◌≤◌, [], length, IfOk, IsTrue, OnOk};
 ghost use Rattle.std.specs.Str.Lines.{strip_carriage_return};
 ghost use Rattle.script_text.specs.declared.ScriptError.TheVariants.{Memory};
 ghost use Rattle.script_words.specs.Lines.{words_of};
 ghost use Rattle.script_text.specs.Items.{before};
 ghost use Rattle.script_text.specs.Judged.{InOrder, line_read};
-ghost use Rattle.script_text.specs.Reading.{KeepsIfRoom, Takes, TakesAll, Stands, Reads, RefusesFirst, plan_held, script_of};
+ghost use Rattle.script_text.specs.Reading.{KeepsIfRoom, Takes, TakesAll, Stands, Reads, RefusesFirst, plan_held, plan_of, script_of};
+ghost use Rattle.script_text.specs.Printing.{IsScript};
+ghost use Rattle.script_text.specs.Playable.{IsPlayable};
+ghost use Rattle.fault_script.specs.Edited.{never_fall};
 
 use crate::items::{Item, SoFar};
 use crate::{Script, ScriptError};
@@ -14,7 +17,7 @@ use config_table::Table;
 use fault_script::Edit;
 use ftpp_base::Ne;
 use packet_format::Act;
-use script_words::codes::NO_CYCLES;
+use script_words::Refused;
 use script_words::lines::cut_line;
 use std::alloc::{AllocFailed, Global};
 
@@ -46,6 +49,7 @@ fn same_element(next: &Option<Ne>) -> Option<Ne>
 }
 
 impl Reader {
+    /// Before the first line, for `n` elements.
     #[tactic(auto, using(crate::proofs::Steps::stands_first), unfolding(crate::specs::Items::before))]
     fn new(alloc: Global, n: u8) -> Reader
         ensures stands { Stands result.so_far.n [] result }
@@ -79,7 +83,7 @@ impl Reader {
         match so_far.cycles {
             None => Err(ScriptError::At {
                 line: last,
-                code: NO_CYCLES,
+                code: Refused::NoCycles.code(),
             }),
             Some(cycles) => Ok(Script {
                 cycles,
@@ -130,7 +134,10 @@ impl Reader {
         ensures { Takes self.old (line_read self.old.so_far (words_of (strip_carriage_return line.now))) number result self.new }
     {
         match self.so_far.line(line) {
-            Err(code) => Err(ScriptError::At { line: number, code }),
+            Err(refused) => Err(ScriptError::At {
+                line: number,
+                code: refused.code(),
+            }),
             Ok(None) => Ok(()),
             Ok(Some(item)) => self.keep(item),
         }
@@ -173,13 +180,19 @@ fn read(alloc: Global, bytes: &[u8], n: u8) -> Result<Script, ScriptError>
 
 /// The script of a text for the elements of the table, or its first refused line with the first code.
 /// It takes memory for the acts, the edits and the rejoins, and is linear in the bytes.
-#[tactic(auto, using(crate::proofs::First::tells_first))]
+#[tactic(auto, using(crate::proofs::First::tells_first, crate::proofs::InTurn::answers_script, crate::proofs::InTurn::answers_playable, crate::proofs::InTurn::answers_edits))]
 pub fn read_script(alloc: Global, bytes: &[u8], table: &Table) -> Result<Script, ScriptError>
     requires { length bytes.now ≤ 8388608 }
     // What the definition gives, unless memory ran out.
     ensures exact { Reads result (script_of table.now.n bytes.now) }
     // The line that is named is the first that is refused.
     ensures first { RefusesFirst table.now.n bytes.now result }
+    // What is read can be printed and read again.
+    ensures script { IfOk result (λ s. IsScript table.now.n (plan_of s)) }
+    // It can be played: all that it names is there, and a cycle has at most 80 acts.
+    ensures playable { IfOk result (λ s. IsPlayable table.now.n (plan_of s)) }
+    // The cycles of its edits do not fall.
+    ensures edits { IfOk result (λ s. IsTrue (never_fall 0 s.edits.items)) }
 {
     read(alloc, bytes, table.n())
 }

@@ -1,26 +1,12 @@
 use crate::{ScriptError, print_script, read_script};
 use config_table::{Group, Table};
 use fault_script::EditKind;
-use ftpp_base::{Proc, Row, Set8};
 use std::alloc::{AllocError, Global};
 use std::test::Fail;
 
 /// Five elements and one group, the manager.
 fn five_elements() -> Option<Table> {
-    let mut members: Row<Proc, 4> = Row::new();
-    for ne in 0..4u8 {
-        members.try_push(Proc { ne, port: 0 }).ok()?;
-    }
-    let manager = Group {
-        vid: 1,
-        members,
-        masked: Set8 { bits: 0 },
-        ts: 3,
-        tr: 2,
-        tx: 0,
-        outs: 16,
-        ins: 32,
-    };
+    let manager = Group::usual(1, &[(0, 0), (1, 0), (2, 0), (3, 0)]);
     Table::new(5, 1, &[manager]).ok()
 }
 
@@ -135,14 +121,6 @@ static TEXTS: [(&[u8], u32, u8); 73] = [
     (b"#\n # x\n\t\ncycles 1\n#x\nat 0 read 9.9 # no", 6, 1),
 ];
 
-#[test]
-fn refuses_the_first_line_with_its_first_code(rt: HostRuntime) -> Result<(), Fail> {
-    for (text, line, code) in TEXTS.iter() {
-        assert_eq!(rt; refusal(&rt, text)?, (*line, *code));
-    }
-    Ok(())
-}
-
 /// A text that begins with `front`, goes on with `count` times `piece` and ends with `back`.
 fn repeated(
     alloc: Global,
@@ -233,7 +211,10 @@ static LONG_TEXTS: [(&[u8], &[u8], usize, &[u8], u32, u8); 12] = [
 ];
 
 #[test]
-fn keeps_the_limits(rt: HostRuntime) -> Result<(), Fail> {
+fn refuses_the_first_line_with_its_first_code(rt: HostRuntime) -> Result<(), Fail> {
+    for (text, line, code) in TEXTS.iter() {
+        assert_eq!(rt; refusal(&rt, text)?, (*line, *code));
+    }
     for (front, piece, count, back, line, code) in LONG_TEXTS.iter() {
         let text = repeated(rt.alloc(), front, piece, *count, back)?;
         assert_eq!(rt; refusal(&rt, text.as_slice())?, (*line, *code));
@@ -242,7 +223,7 @@ fn keeps_the_limits(rt: HostRuntime) -> Result<(), Fail> {
 }
 
 #[test]
-fn reads_and_prints(rt: HostRuntime) -> Result<(), Fail> {
+fn reads_prints_and_names_its_errors(rt: HostRuntime) -> Result<(), Fail> {
     let table = five_elements().ok_or("no table")?;
     let text =
         b"# a run\r\n\n cycles\t0010 \r\nfaulty 2\nat 3 flip A1 0 007 0F\nat 3 post 1.7 5 1 0 ff00A100\nat 3 read 0.0\nat 3 send any all -\nat 4 rejoin none\nat 5 read 2.1\r";
@@ -266,11 +247,6 @@ fn reads_and_prints(rt: HostRuntime) -> Result<(), Fail> {
     let wanted =
         b"cycles 10\nfaulty 2\nat 3 post 1.7 5 1 0 ff00a1\nat 3 read 0.0\nat 3 flip A1 0 7 0f\nat 3 send any all -\nat 4 rejoin none\nat 5 read 2.1\n";
     assert_eq!(rt; printed.as_slice(), wanted.as_slice());
-    Ok(())
-}
-
-#[test]
-fn names_its_errors(rt: HostRuntime) -> Result<(), Fail> {
     assert_eq!(rt;
         format!(in rt.alloc(); "{}", ScriptError::At { line: 1, code: 2 })?.as_str(),
         "At"

@@ -9,6 +9,8 @@ use Rattle.hex.specs.declared.error.FromHexError.{FromHexError}
 use Rattle.hex.proofs.HexLemmas.{decode_of-ok}
 use Rattle.script_words.specs.Fields.{is_digit, packet_from, frame_from, Decodes}
 use Rattle.arrayvec.specs.ArrayVec.{ArrayVec}
+use Rattle.script_words.specs.declared.refusals.Refused.{Refused}
+use Rattle.script_words.specs.declared.refusals.Refused.TheVariants.{Bytes}
 use Rattle.packet_format.specs.declared.Packet.{Packet}
 
 and_true : (b c : Bool) → b ≡ true → (b && c) ≡ c
@@ -40,9 +42,9 @@ pub packet_decoded : (d : Result (List ℕ) FromHexError) (old : Packet) (new : 
 packet_decoded (Ok bytes) old new e h = rw (h.1, e, drop-replicate {X = ℕ} (length bytes) 64 0) refl
 packet_decoded (Err f) old new e h = absurd cc
 
-pub packet_refused : (d : Result (List ℕ) FromHexError) (old new : List ℕ) (code : ℕ) → Decodes d old new (Err code) → packet_from d ≡ Err code
-packet_refused (Ok bytes) old new code h = absurd cc
-packet_refused (Err f) old new code h = let same : 6 ≡ code = cc in rw (← same) refl
+pub packet_refused : (d : Result (List ℕ) FromHexError) (old new : List ℕ) (why : Refused) → Decodes d old new (Err why) → packet_from d ≡ Err why
+packet_refused (Ok bytes) old new why h = absurd cc
+packet_refused (Err f) old new why h = let same : Bytes ≡ why = cc in rw (← same) refl
 
 -- a frame that was read
 pub frame_decoded : (word : List ℕ) (d : Result (List ℕ) FromHexError) (old new : List ℕ) (frame : ArrayVec ℕ) → decode_of word ≡ d → Decodes d old new (Ok tt) → frame.items ≡ take (length word / 2) new → Ok frame ≡ frame_from d
@@ -50,5 +52,5 @@ frame_decoded word (Ok bytes) old new frame e h f =
     let twice = (decode_of-ok word bytes e).2 in
     let half : length bytes ≡ length word / 2 = omega arith in
     let front : take (length word / 2) new ≡ bytes = rw h.1 (take_at bytes (drop (length bytes) old) (length word / 2) half) in
-    ap (λ (xs : List ℕ). let r : Result (ArrayVec ℕ) ℕ = Ok (record { items = xs }) in r) (f ∙ front)
+    ap (λ (xs : List ℕ). let r : Result (ArrayVec ℕ) Refused = Ok (record { items = xs }) in r) (f ∙ front)
 frame_decoded word (Err g) old new frame e h f = absurd cc

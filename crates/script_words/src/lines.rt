@@ -7,18 +7,21 @@ ghost use Rattle.script_words.specs.Lines.{is_newline, is_blank, is_solid, words
 
 use ftpp_base::Row;
 
+/// The place of the first newline.
 fn first_newline(text: &[u8]) -> Option<usize>
     ensures { result ≡ position is_newline text.now }
 {
     text.iter().position(|b| *b == b'\n')
 }
 
+/// The place of the first space or tab.
 fn first_blank(line: &[u8]) -> Option<usize>
     ensures { result ≡ position is_blank line.now }
 {
     line.iter().position(|b| is_space(*b))
 }
 
+/// The place of the first byte that is no space and no tab.
 fn first_solid(line: &[u8]) -> Option<usize>
     ensures { result ≡ position is_solid line.now }
 {
@@ -40,6 +43,7 @@ pub fn cut_line(text: &[u8]) -> (&[u8], Option<&[u8]>)
     }
 }
 
+/// The line without a carriage return at its end.
 pub fn without_carriage_return(line: &[u8]) -> &[u8]
     ensures { result.now ≡ strip_carriage_return line.now }
 {
@@ -62,6 +66,7 @@ fn cut_word(line: &[u8]) -> Option<(&[u8], &[u8])>
     }
 }
 
+/// Whether a byte is a space or a tab.
 fn is_space(b: u8) -> bool
     ensures { result ≡ is_blank b }
 {
