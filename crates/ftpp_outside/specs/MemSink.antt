@@ -10,7 +10,7 @@ kept s = s.bytes.items
 abbrev pub whole_room : MemSink → ℕ
 whole_room s = s.room
 
--- the number of the next call, which stays at its end
+-- the number of the next call, which stays at 2^64 - 1
 abbrev pub next_call : MemSink → ℕ
 next_call s = min (s.calls + 1) (2 ^ 64 - 1)
 

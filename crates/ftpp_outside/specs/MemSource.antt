@@ -6,7 +6,7 @@ use Rattle.ftpp_outside.specs.declared.mem_source.MemSource.{MemSource}
 abbrev pub unread : MemSource → List ℕ
 unread s = drop s.at s.bytes.items
 
--- the number of the next call, which stays at its end
+-- the number of the next call, which stays at 2^64 - 1
 abbrev pub next_call : MemSource → ℕ
 next_call s = min (s.calls + 1) (2 ^ 64 - 1)
 

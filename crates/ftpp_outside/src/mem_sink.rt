@@ -1,12 +1,13 @@
 //! A sink in memory.
-ghost use Rattle.std.specs.Prelude.{◌≡◌, ◌+◌, ◌-◌, ◌<◌, ◌≤◌, ◌↔◌, ◌⊎◌, ◌^◌, [], Some, length, min, take, vec_len, vec_capacity, Contains, IsErr, IfOk, OnErr};
-ghost use Rattle.ftpp_outside.specs.Told.{Rose, Adds};
+ghost use Rattle.std.specs.Prelude.{◌≡◌, ◌+◌, ◌-◌, ◌<◌, ◌≤◌, ◌↔◌, ◌⊎◌, ◌^◌, [], Some, length, min, take, vec_len, vec_capacity, Contains, IsErr, IfOk, OnErr, MatchResult};
+ghost use Rattle.ftpp_outside.specs.Told.{raised, Rose, Adds};
 
 use crate::sink::{Sink, WriteFault};
 use ftpp_base::NoMemory;
 use std::alloc::Global;
 
-/// A sink that keeps what it is given, while it has room. A piece is bounded, and chosen calls fail.
+/// A sink that keeps the bytes written, while it has room. One call takes a limited number of bytes,
+/// and chosen calls fail.
 #[derive(Drop)]
 pub struct MemSink {
     bytes: Vec<u8>,
@@ -25,8 +26,12 @@ pub struct MemSink {
 impl MemSink {
     ghost use Rattle.ftpp_outside.specs.MemSink.{kept, whole_room, next_call, failing_calls, most_at_once};
 
-    /// A sink with room for `room` bytes, which it reserves. It takes at most `piece` bytes a call.
-    /// Calls are counted from 1, and those in the list fail.
+    /// A sink that reserves room for `room` bytes and takes at most `piece` bytes a call. Calls are
+    /// counted from 1, and those in the list `failing` fail.
+    ///
+    /// # Errors
+    ///
+    /// [`NoMemory`] where the system gives no memory.
     pub fn new(
         alloc: Global,
         room: usize,
@@ -76,6 +81,7 @@ impl Sink for MemSink {
         ensures fault { OnErr result (Rose self.old.faults self.new.faults) }
         ensures same { OnErr result (kept self.new ≡ kept self.old) }
         ensures faults { self.old.faults ≤ self.new.faults }
+        ensures counted { MatchResult result (λ _. self.new.faults ≡ self.old.faults) (λ _. self.new.faults ≡ raised self.old.faults 1) }
 
         // Exactly the chosen calls and those without room fail, and the others take all that fits.
         ensures fails { IsErr result ↔ (Contains (failing_calls self.old) (next_call self.old) ⊎ (length (kept self.old) ≡ whole_room self.old)) }

@@ -4,7 +4,7 @@ ghost use Rattle.ftpp_outside.specs.Told.{raised, Rose, Gives};
 
 use crate::source::{ReadFault, Source};
 
-/// A source over bytes in memory. A piece is bounded, and chosen calls fail.
+/// A source of bytes in memory. One call gives a limited number of bytes, and chosen calls fail.
 #[derive(Drop)]
 pub struct MemSource {
     bytes: Vec<u8>,
@@ -24,8 +24,8 @@ pub struct MemSource {
 impl MemSource {
     ghost use Rattle.ftpp_outside.specs.MemSource.{unread, next_call, failing_calls, most_at_once};
 
-    /// A source of these bytes, in pieces of at most `piece` bytes. Calls are counted from 1, and
-    /// those in the list fail.
+    /// A source of these bytes that gives at most `piece` bytes a call. Calls are counted from 1, and
+    /// those in the list `failing` fail.
     pub fn new(bytes: Vec<u8>, piece: usize, failing: Vec<u64>) -> Self
         requires { 1 ≤ piece }
         ensures unread { unread result ≡ bytes.items }
@@ -64,6 +64,7 @@ impl Source for MemSource {
         ensures fault { OnErr result (Rose self.old.faults self.new.faults) }
         ensures same { OnErr result (unread self.new ≡ unread self.old) }
         ensures faults { self.old.faults ≤ self.new.faults }
+        ensures counted { MatchResult result (λ _. self.new.faults ≡ self.old.faults) (λ _. self.new.faults ≡ raised self.old.faults 1) }
 
         // Exactly the chosen calls fail, and the others give all that fits.
         ensures fails { IsErr result ↔ Contains (failing_calls self.old) (next_call self.old) }

@@ -8,13 +8,17 @@ pub struct WriteFault;
 
 /// What bytes are written to.
 pub trait Sink {
-    /// The bytes that were written, or `None` where it does not tell.
+    /// The bytes written so far, or `None` for a sink that does not tell.
     ghost written: { Self → Option (List ℕ) };
 
-    /// The number of faults.
+    /// The number of faults so far, which stays at 2^64 - 1.
     ghost faults: { Self → ℕ };
 
-    /// Writes the first bytes of a piece.
+    /// Writes the first bytes of a piece and returns how many: at least 1, unless the piece is empty.
+    ///
+    /// # Errors
+    ///
+    /// [`WriteFault`] where the write failed; no byte was written.
     fn write(&mut self, piece: &[u8]) -> Result<usize, WriteFault>
         ensures count { IfOk result (λ n. n ≤ length piece.now) }
         ensures progress { IfOk result (λ n. 0 < length piece.now → 1 ≤ n) }
@@ -25,6 +29,10 @@ pub trait Sink {
 }
 
 /// Writes a whole piece.
+///
+/// # Errors
+///
+/// [`WriteFault`] where a write failed; the bytes before it were written.
 #[tactic(auto, using(crate::proofs::Told::adds_none, crate::proofs::Told::adds_both))]
 pub fn write_all<K: Sink>(sink: &mut K, piece: &[u8]) -> Result<(), WriteFault>
     ensures ok { OnOk result (Adds (K.written sink.old) piece.now (K.written sink.new)) }

@@ -11,16 +11,21 @@ pub struct ReadFault;
 
 /// What bytes are read from.
 pub trait Source {
-    /// The bytes that are left, or `None` where it does not tell.
+    /// The bytes that are left, or `None` for a source that does not tell.
     ghost left: { Self → Option (List ℕ) };
 
-    /// The number of bytes that were taken.
+    /// The number of bytes taken so far, which stays at 2^64 - 1.
     ghost taken: { Self → ℕ };
 
-    /// The number of faults.
+    /// The number of faults so far, which stays at 2^64 - 1.
     ghost faults: { Self → ℕ };
 
-    /// Reads the next bytes.
+    /// Reads the next bytes into the front of `into` and returns how many. Unless `into` is empty, 0
+    /// means the end of input.
+    ///
+    /// # Errors
+    ///
+    /// [`ReadFault`] where the read failed; no byte was taken.
     fn read(&mut self, into: &mut [u8]) -> Result<usize, ReadFault>
         ensures count { IfOk result (λ n. n ≤ length into.old) }
         ensures bytes { IfOk result (λ n. Gives (left self.old) (take n into.new) (left self.new)) }
@@ -45,25 +50,31 @@ pub enum InputError {
     Memory,
 }
 
-// How many bytes are asked for at once.
+/// The most bytes that one read asks for.
 const PIECE: usize = 4096;
 
-/// All bytes that are left, if they are no more than the limit.
+/// Reads all bytes that are left, if they are no more than the limit. At most one byte more than the
+/// limit is taken.
+///
+/// # Errors
+///
+/// [`InputError::Read`] where a read failed, [`InputError::TooLong`] where more than `limit` bytes
+/// were left, [`InputError::Memory`] where the system gives no memory.
 #[tactic(auto, using(crate::proofs::Told::gives_none, crate::proofs::Told::gives_both))]
 pub fn read_all<S: Source>(alloc: Global, src: &mut S, limit: usize) -> Result<Vec<u8>, InputError>
-    requires { limit ≤ 8388608 }
     ensures bytes { IfOk result (λ v. IfSome (S.left src.old) (λ xs. v.items ≡ xs)) }
     ensures short { IfOk result (λ v. vec_len v ≤ limit) }
     ensures end { IfOk result (λ _. IfSome (S.left src.new) (λ xs. xs ≡ [])) }
     ensures read { result ≡ Err InputError.Read → Rose (S.faults src.old) (S.faults src.new) }
     ensures too_long { result ≡ Err InputError.TooLong → S.taken src.new ≡ raised (S.taken src.old) (limit + 1) }
     ensures longer { result ≡ Err InputError.TooLong → IfSome (S.left src.old) (λ xs. limit < length xs) }
+    ensures most { S.taken src.new ≤ raised (S.taken src.old) (limit + 1) }
     ensures faults { S.faults src.old ≤ S.faults src.new }
 {
     let mut all = Vec::new(alloc);
     let mut piece = [0u8; PIECE];
     while all.len() <= limit {
-        let want = (limit + 1 - all.len()).min(PIECE);
+        let want = (limit - all.len()).saturating_add(1).min(PIECE);
         let Ok(n) = src.read(&mut piece[..want]) else {
             return Err(InputError::Read);
         };

@@ -1,4 +1,4 @@
-//! The standard streams. They tell no content.
+//! Readers of the system as sources, and standard output as a sink. They do not tell what they hold.
 ghost use Rattle.std.specs.Prelude.{◌≡◌, ◌<◌, ◌≤◌, ◌^◌, None};
 ghost use Rattle.ftpp_outside.specs.Told.{Rose};
 
@@ -6,30 +6,33 @@ use crate::sink::{Sink, WriteFault};
 use crate::source::{ReadFault, Source};
 use std::io::{Read, Stdin, Stdout, Write};
 
-/// Standard input.
+/// A reader of the system as a source, for example standard input or a file.
 #[derive(Drop)]
-pub struct StdSource {
-    stream: Stdin,
+pub struct ReaderSource<T: Read + Drop> {
+    reader: T,
     faults: u64,
     taken: u64,
     ghost faults_fit: { faults < 2 ^ 64 },
     ghost taken_fits: { taken < 2 ^ 64 },
 }
 
-impl StdSource {
-    /// The source of a stream.
-    pub fn new(stream: Stdin) -> Self
+/// Standard input as a source.
+pub type StdSource = ReaderSource<Stdin>;
+
+impl<T: Read + Drop> ReaderSource<T> {
+    /// The source of a reader.
+    pub fn new(reader: T) -> Self
         ensures counts { (result.faults ≡ 0) × (result.taken ≡ 0) }
     {
-        StdSource {
-            stream,
+        ReaderSource {
+            reader,
             faults: 0,
             taken: 0,
         }
     }
 }
 
-impl Source for StdSource {
+impl<T: Read + Drop> Source for ReaderSource<T> {
     ghost left = { λ _. None };
 
     ghost taken = { λ s. s.taken };
@@ -37,7 +40,7 @@ impl Source for StdSource {
     ghost faults = { λ s. s.faults };
 
     fn read(&mut self, into: &mut [u8]) -> Result<usize, ReadFault> {
-        match self.stream.read(into) {
+        match self.reader.read(into) {
             Ok(n) => {
                 self.taken = self.taken.saturating_add(n as u64);
                 Ok(n)
@@ -50,7 +53,8 @@ impl Source for StdSource {
     }
 }
 
-/// Standard output.
+/// Standard output as a sink. Each write is flushed. A write that takes no byte of a piece is a
+/// fault.
 #[derive(Drop)]
 pub struct StdSink {
     stream: Stdout,
@@ -66,7 +70,7 @@ impl StdSink {
         StdSink { stream, faults: 0 }
     }
 
-    // Counts a fault.
+    /// Counts a fault.
     fn count(&mut self)
         ensures rose { Rose self.old.faults self.new.faults }
         ensures faults { self.old.faults ≤ self.new.faults }

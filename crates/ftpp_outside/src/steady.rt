@@ -5,7 +5,7 @@ ghost use Rattle.ftpp_outside.specs.Told.{raised};
 use crate::sink::{Sink, WriteFault};
 use crate::source::{ReadFault, Source};
 
-/// A source over bytes in memory that never fails.
+/// A source of bytes in memory that never fails.
 #[derive(Drop)]
 pub struct SteadySource {
     bytes: Vec<u8>,
@@ -51,22 +51,22 @@ impl Source for SteadySource {
     }
 }
 
-/// A sink that never fails. It counts the bytes that it is given and keeps none.
-#[derive(Drop)]
+/// A sink that never fails. It counts the bytes written and keeps none.
+#[derive(Clone, Copy, Debug)]
 pub struct SteadySink {
     count: u64,
     ghost count_fits: { count < 2 ^ 64 },
 }
 
 impl SteadySink {
-    /// A sink that was given nothing.
+    /// A sink to which nothing was written.
     pub fn new() -> Self
         ensures { result.count ≡ 0 }
     {
         SteadySink { count: 0 }
     }
 
-    /// The number of bytes that it was given in all writes so far, which stays at 2^64 - 1.
+    /// The number of bytes written so far, which stays at 2^64 - 1.
     pub fn count(&self) -> u64
         ensures { result ≡ self.now.count }
     {

@@ -1,0 +1,1 @@
+-- What the clauses of this crate cite: std's words alone.

@@ -1,0 +1,16 @@
+-- What a shelf in memory shows.
+use Rattle.std.specs.Prelude.{ℕ, ◌+◌, ◌-◌, ◌^◌, min, List, map}
+use Rattle.ftpp_outside.specs.declared.mem_shelf.MemShelf.{MemShelf}
+use Rattle.ftpp_outside.specs.Files.{NamedBytes, named_bytes}
+
+-- its files, in the order in which they were given
+abbrev pub shelved : MemShelf → List NamedBytes
+shelved s = map named_bytes s.files.items
+
+-- the number of the next call, which stays at 2^64 - 1
+abbrev pub next_call : MemShelf → ℕ
+next_call s = min (s.calls + 1) (2 ^ 64 - 1)
+
+-- the calls that fail
+abbrev pub failing_calls : MemShelf → List ℕ
+failing_calls s = s.failing.items
