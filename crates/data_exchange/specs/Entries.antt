@@ -16,18 +16,11 @@ use Rattle.config_table.specs.declared.decisions.Kind.{Kind}
 use Rattle.config_table.specs.declared.decisions.Kind.TheVariants.{Voted, Source, Every}
 use Rattle.config_table.specs.declared.decisions.Service.{Service}
 use Rattle.config_table.specs.Groups.{live_members}
+pub use Rattle.config_table.specs.Kinds.{may_send, contributes, is_voted}
+pub use Rattle.config_table.specs.Members.{live_in, senders, member_at}
 use Rattle.config_table.specs.Table.{TableValue, group_named}
-use Rattle.processor_buffers.specs.Queues.{Posted, carries}
-
--- whether an element is one that may send in an exchange of that kind
-abbrev pub may_send : Kind → ℕ → Bool
-may_send Voted ne = true
-may_send (Source s) ne = s == ne
-may_send Every ne = true
-
--- whether an element contributes: its member is admitted, and in Source it is the source
-abbrev pub contributes : Service → ℕ → Bool
-contributes service ne = has service.admitted ne && may_send service.kind ne
+pub use Rattle.processor_buffers.specs.Heads.{packet_of_head}
+use Rattle.processor_buffers.specs.Queues.{Posted}
 
 -- what an element counts as: its value where it contributes, and none otherwise
 abbrev pub contribution : Service → (ℕ → Cell) → ℕ → Cell
@@ -36,14 +29,6 @@ contribution service value ne = if contributes service ne then value ne else Non
 -- whether two values are the same where they count: at the elements below n that contribute
 abbrev pub CountsAlike : ℕ → Service → (ℕ → Cell) → (ℕ → Cell) → Type 0
 CountsAlike n service value other = (ne : ℕ) → ne < n → contributes service ne ≡ true → value ne ≡ other ne
-
--- the ones of some members that are not masked
-abbrev pub live_in : Set8 → List Proc → List Proc
-live_in masked members = map (λ seat. seat.1) (filter (λ seat. not (has masked seat.0)) (enumerate_from 0 members))
-
--- the live members of the group that is served
-abbrev pub senders : TableValue → ℕ → List Proc
-senders table vid = unwrap_or (option_map live_members (group_named table vid)) []
 
 -- what a member's element counts as
 abbrev pub member_counts_as : Service → (ℕ → Cell) → Proc → Cell
@@ -66,15 +51,6 @@ entry_at table service round receiver = entry_by service.kind table service (cop
 -- a row as a packet
 abbrev pub packet_in : Cell → Option Packet
 packet_in cell = option_map (λ row. record { bytes = row }) cell
-
--- the packet of a head that carries the request
-abbrev pub packet_of_head : Descriptor → Option Posted → Cell
-packet_of_head desc None = None
-packet_of_head desc (Some posted) = if carries (Some posted) desc then Some posted.1.bytes else None
-
--- the member of a group at an element
-abbrev pub member_at : List Proc → ℕ → Option Proc
-member_at procs ne = find (λ proc. proc.ne == ne) procs
 
 -- the row that an element contributes: the head of its member, where that carries the request
 abbrev pub own_row : TableValue → (Proc → Option Posted) → Service → ℕ → Cell
@@ -110,12 +86,6 @@ common_head (Some head ∷ heads) = if list_all (is_head head) heads then Some h
 unfoldable pub held_alike : Option ℕ → (Proc → Option Posted) → Group → Option Posted
 held_alike faulty heads g =
     if fault_free_majority faulty g then common_head (map heads (fault_free_members faulty g)) else None
-
--- whether a round alone carries the exchange
-abbrev pub is_voted : Kind → Bool
-is_voted Voted = true
-is_voted (Source s) = false
-is_voted Every = false
 
 -- one element alone sends, and is one of n
 abbrev pub IsSourceBelow : ℕ → Kind → Type 0

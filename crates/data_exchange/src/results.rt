@@ -5,7 +5,7 @@ ghost use Rattle.ftpp_base.specs.Lists.{cell_at};
 ghost use Rattle.bit_vote.specs.Vote.{Cell};
 ghost use Rattle.two_round.specs.Echoes.{result_for};
 ghost use Rattle.config_table.specs.Bounds.{InRange};
-ghost use Rattle.config_table.specs.Table.{TableValue};
+ghost use Rattle.config_table.specs.Table.{IsValid, TableValue};
 ghost use Rattle.data_exchange.specs.Entries.{contribution, member_counts_as, members_vote, entry_by, packet_in, live_in, IsSourceAmong, IsSourceBelow, CountsAlike};
 
 use crate::kinds::is_contributor;
@@ -73,7 +73,8 @@ fn members_vote<const N: usize>(
 ) -> Option<Packet>
     requires few { N ≤ 5 }
     requires elements { table.now.n ≡ N }
-    ensures { result ≡ packet_in (members_vote table.now service.now (cell_at values.now)) }
+    ensures vote { result ≡ packet_in (members_vote table.now service.now (cell_at values.now)) }
+    ensures valid { IsValid table.now }
 {
     match table.group(service.vid) {
         Some(group) => {
@@ -96,8 +97,6 @@ pub fn members_result<const N: usize>(
     requires elements { table.now.n ≡ N }
     ensures { (value : ℕ → Cell) → CountsAlike N service.now value (cell_at results.now) → result ≡ packet_in (members_vote table.now service.now value) }
 {
-    // in a valid table all members are elements of it
-    let _valid = table.n();
     members_vote(table, service, results)
 }
 

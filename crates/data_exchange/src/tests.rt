@@ -3,34 +3,23 @@ ghost use Rattle.std.specs.Prelude.{◌≡◌, IfSome};
 use super::*;
 use bit_vote::Cells;
 use config_table::{Group, Kind, Service, Table};
-use ftpp_base::{Ne, Proc, Row, Set8};
+use ftpp_base::{Ne, Set8};
 use packet_format::{Descriptor, Packet};
 use std::test::Fail;
 use two_round::TwoRound;
 
-fn group(vid: u8, masked: u8, members: &[(u8, u8)]) -> Group {
-    let mut row = Row::new();
-    for &(ne, port) in members {
-        let _ = row.try_push(Proc { ne, port });
-    }
-    Group {
-        vid,
-        members: row,
-        masked: Set8 { bits: masked },
-        ts: 3,
-        tr: 2,
-        tx: 0,
-        outs: 16,
-        ins: 32,
-    }
+/// The group with some members masked.
+fn with_masked(mut group: Group, bits: u8) -> Group {
+    group.masked = Set8 { bits };
+    group
 }
 
 /// Four elements: a group of four and two of three, where the last member of group 2 is masked.
 fn groups() -> [Group; 3] {
     [
-        group(1, 0, &[(0, 0), (1, 0), (2, 0), (3, 0)]),
-        group(2, 4, &[(0, 1), (1, 1), (2, 1)]),
-        group(3, 0, &[(1, 2), (2, 2), (3, 2)]),
+        Group::usual(1, &[(0, 0), (1, 0), (2, 0), (3, 0)]),
+        with_masked(Group::usual(2, &[(0, 1), (1, 1), (2, 1)]), 4),
+        Group::usual(3, &[(1, 2), (2, 2), (3, 2)]),
     ]
 }
 

@@ -18,13 +18,19 @@ use Rattle.flag_vote.specs.Flags.{voted_flags}
 use Rattle.scoreboard.specs.Board.{Scoreboard}
 use Rattle.scoreboard.specs.Choice.{Request, kind_of, discard_reason, done_with, decided, oldest, eligible_requests, decision_of, scoreboard_after}
 use Rattle.scoreboard.proofs.Chosen.{oldest_item}
-use Rattle.data_exchange.specs.Entries.{IsSourceAmong}
-use Rattle.run.specs.Cycle.{update_in, update_outcome}
-use Rattle.run.specs.Element.{Made, echoes_of, settled, own_packet, own_entry, own_service, own_delivery, own_handed, own_update, made, kept_with, kept_after}
-use Rattle.run.proofs.Accepted.{slice_get-all}
-use Rattle.run.proofs.AloneRounds.{decision_fits, FitsKind}
-use Rattle.run.proofs.Chosen.{eligible-may}
-use Rattle.run.proofs.PhaseLaws.{each_part_made, kept_after-parts}
+use Rattle.data_exchange.specs.Entries.{IsSourceAmong, entry_by, packet_in}
+use Rattle.ftpp_base.specs.Lists.{cell_at}
+use Rattle.bit_vote.specs.Vote.{Cell}
+use Rattle.two_round.specs.Echoes.{Echoes, result_for}
+use Rattle.config_table.specs.declared.decisions.Decision.TheVariants.{Idle, Discard, Exchange}
+use Rattle.element_notes.specs.Words.{row_in}
+use Rattle.element_core.specs.Noted.{own_entry_row}
+use Rattle.element_core.specs.Cycle.{update_in, update_outcome}
+use Rattle.element_core.specs.Element.{Made, echoes_of, settled, own_packet, own_entry, own_service, own_delivery, own_handed, own_update, made, kept_with, kept_after}
+use Rattle.element_core.proofs.Accepted.{slice_get-all}
+use Rattle.element_core.proofs.AloneRounds.{decision_fits, FitsKind}
+use Rattle.element_core.proofs.Chosen.{eligible-may}
+use Rattle.element_core.proofs.PhaseLaws.{each_part_made, kept_after-parts}
 use Rattle.element_core.specs.declared.Due.TheVariants.{Absorb}
 use Rattle.element_core.specs.ElementValue.{ElementValue, patterns_now, packets_now, pattern_now, decision_now, scoreboard_now}
 use Rattle.element_core.specs.Frames.{FitsTable}
@@ -63,6 +69,17 @@ made_now e cells due =
       handed = parts.handed ∙ (λ i. own_handed e.kept (decision i) (entry i) (own_service e.kept (decision i)));
       update = parts.update ∙ (λ i. update_outcome e.kept.table (own_update e.kept.table (decision i) (packets i)));
     }
+
+-- the row of a packet is the cell that it was read from
+row_packet : (cell : Cell) → row_in (packet_in cell) ≡ cell
+row_packet None = refl
+row_packet (Some row) = refl
+
+-- the row of the entry
+pub entry_row : (table : TableValue) (d : Decision) (x : Echoes) → row_in (own_entry table d x) ≡ own_entry_row table d x
+entry_row table Idle x = refl
+entry_row table (Discard vid desc number admitted waited) x = refl
+entry_row table (Exchange service) x = row_packet (entry_by service.kind table service (cell_at x.copies) (result_for x))
 
 -- what it keeps then
 pub kept_now : (e : ElementValue) → HasOwnCells e → e.due ≡ Absorb B2 → kept_after e.kept (made e.kept e.heard)

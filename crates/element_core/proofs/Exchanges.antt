@@ -12,8 +12,8 @@ use Rattle.config_table.specs.declared.decisions.Decision.TheVariants.{Exchange}
 use Rattle.config_table.specs.Table.{TableValue}
 use Rattle.data_exchange.specs.Entries.{CountsAlike, contributes, is_voted, entry_by, members_vote, packet_in}
 use Rattle.element_notes.specs.AtHand.{AreResults}
-use Rattle.run.specs.Sent.{is_relayed}
-use Rattle.run.specs.Element.{own_entry, own_update}
+use Rattle.element_core.specs.Sent.{is_relayed}
+use Rattle.element_core.specs.Element.{own_entry, own_update}
 
 -- in two rounds the results at hand are those of all that contribute
 alike : (n : ℕ) (service : Service) (x : Echoes) (results : List Cell) → AreResults n x (is_relayed (Exchange service)) results → is_voted service.kind ≡ false

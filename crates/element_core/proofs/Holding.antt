@@ -10,21 +10,21 @@ use Rattle.scoreboard.specs.Choice.{scoreboard_decision, scoreboard_after}
 use Rattle.scoreboard.specs.Times.{AreLinesOf, AreBefore}
 use Rattle.syndrome_log.specs.declared.Syndrome.{Syndrome}
 use Rattle.config_table.specs.declared.decisions.Decision.{Decision}
-use Rattle.run.specs.Element.{Kept, own_packet, echoes_of, settled}
-use Rattle.run.specs.Phases.{no_cells}
-use Rattle.run.specs.Noted.{own_pattern, where_relayed, cells_made}
+use Rattle.element_core.specs.Element.{Kept, own_packet, echoes_of, settled}
+use Rattle.element_core.specs.Phases.{no_cells}
+use Rattle.element_core.specs.Noted.{own_pattern, where_relayed, cells_made}
 use Rattle.ftpp_base.specs.Lists.{cell_at, each_below}
 use Rattle.ftpp_base.specs.declared.element.Slot.{Slot}
 use Rattle.bit_vote.specs.Vote.{Cell}
 use Rattle.frame_format.specs.Frames.{first_cell, reads_as}
 use Rattle.std.proofs.lemmas.List.FromFn.{length-map-range_with_len}
-use Rattle.element_core.specs.declared.midst.Midst.{Midst}
+use Rattle.element_core.specs.declared.pending.Pending.{Pending}
 use Rattle.element_core.specs.declared.Due.{Due}
 use Rattle.element_core.specs.declared.Due.TheVariants.{Emit, Absorb}
 use Rattle.element_core.specs.ElementValue.{ElementValue, CycleTold, rounds_heard, after_emit, after_absorb, heard_with, cells_taken, taken_of, copy_taken, patterns_now, pattern_now}
 use Rattle.element_core.specs.Frames.{cells_held}
 use Rattle.element_core.specs.Steps.{HasOwnCells}
-use Rattle.element_core.specs.Midst.{element_with, has_begun, IsMidst, IsElement}
+use Rattle.element_core.specs.Pending.{element_with, has_begun, IsPending, IsElement}
 use Rattle.element_core.proofs.StepLaws.{own_cells_begin, own_cells_hold, own_cells_stay, own_relay}
 
 -- none of the two rounds of patterns was heard
@@ -32,9 +32,9 @@ none_heard : {A : Type 0} → 2 ≤ 0 → A
 none_heard l = absurd (omega arith)
 
 -- at the beginning of a cycle, among as many elements as its table has
-begun_on : (kept : Kept) (last : Option CycleTold) (log : List Syndrome) (midst : Midst kept.table.n) → (kept.table.n ≡ 4) ⊎ (kept.table.n ≡ 5) → kept.me < kept.table.n
-    → IsElement kept.table.n (element_with kept (no_echoes kept.table.n kept.me) (no_echoes kept.table.n kept.me) (Emit A1) last log) midst
-begun_on kept last log midst size below =
+begun_on : (kept : Kept) (last : Option CycleTold) (log : List Syndrome) (pending : Pending kept.table.n) → (kept.table.n ≡ 4) ⊎ (kept.table.n ≡ 5) → kept.me < kept.table.n
+    → IsElement kept.table.n (element_with kept (no_echoes kept.table.n kept.me) (no_echoes kept.table.n kept.me) (Emit A1) last log) pending
+begun_on kept last log pending size below =
     let cells = own_cells_begin kept below in
     record {
       size = size;
@@ -55,14 +55,14 @@ begun_on kept last log midst size below =
     }
 
 -- at the beginning of a cycle it has heard nothing
-pub holds_begun : (n : ℕ) (kept : Kept) (patterns packets : Echoes) (last : Option CycleTold) (log : List Syndrome) (midst : Midst n)
+pub holds_begun : (n : ℕ) (kept : Kept) (patterns packets : Echoes) (last : Option CycleTold) (log : List Syndrome) (pending : Pending n)
     → (n ≡ 4) ⊎ (n ≡ 5) → kept.table.n ≡ n → kept.me < n → patterns ≡ no_echoes n kept.me → packets ≡ no_echoes n kept.me
-    → IsElement n (element_with kept patterns packets (Emit A1) last log) midst
-holds_begun n kept patterns packets last log midst size elements below no_patterns no_packets =
-    subst (λ (x : Echoes). IsElement n (element_with kept x packets (Emit A1) last log) midst) (sym no_patterns)
-    (subst (λ (y : Echoes). IsElement n (element_with kept (no_echoes n kept.me) y (Emit A1) last log) midst) (sym no_packets)
-    (subst (λ (k : ℕ). (midst : Midst k) → (k ≡ 4) ⊎ (k ≡ 5) → kept.me < k → IsElement k (element_with kept (no_echoes k kept.me) (no_echoes k kept.me) (Emit A1) last log) midst) elements
-    (begun_on kept last log) midst size below))
+    → IsElement n (element_with kept patterns packets (Emit A1) last log) pending
+holds_begun n kept patterns packets last log pending size elements below no_patterns no_packets =
+    subst (λ (x : Echoes). IsElement n (element_with kept x packets (Emit A1) last log) pending) (sym no_patterns)
+    (subst (λ (y : Echoes). IsElement n (element_with kept (no_echoes n kept.me) y (Emit A1) last log) pending) (sym no_packets)
+    (subst (λ (k : ℕ). (pending : Pending k) → (k ≡ 4) ⊎ (k ≡ 5) → kept.me < k → IsElement k (element_with kept (no_echoes k kept.me) (no_echoes k kept.me) (Emit A1) last log) pending) elements
+    (begun_on kept last log) pending size below))
 
 -- four or five elements are few
 pub few_by : (n : ℕ) → (n ≡ 4) ⊎ (n ≡ 5) → n ≤ 5
@@ -76,20 +76,20 @@ size_on a b e size = subst (λ (k : ℕ). (k ≡ 4) ⊎ (k ≡ 5)) e size
 -- ---- what it sends
 
 -- its frame is that of the cells that it makes
-pub cells_sent_held : (n : ℕ) (e : ElementValue) (midst : Midst n) (patterns packets : Echoes) (round : Round) → IsElement n e midst → e.due ≡ Emit round
-    → patterns.copies ≡ e.heard.patterns → packets.copies ≡ e.heard.packets → cells_held n e.kept patterns packets midst.decision round ≡ cells_made e.kept e.heard round
-cells_sent_held n e midst patterns packets A1 h due same_patterns same_packets = refl
-cells_sent_held n e midst patterns packets A2 h due same_patterns same_packets = same_patterns ∙ sym ((own_cells_hold e h.cells).pattern_echo (rw due (omega arith)))
-cells_sent_held n e midst patterns packets B1 h due same_patterns same_packets =
+pub cells_sent_held : (n : ℕ) (e : ElementValue) (pending : Pending n) (patterns packets : Echoes) (round : Round) → IsElement n e pending → e.due ≡ Emit round
+    → patterns.copies ≡ e.heard.patterns → packets.copies ≡ e.heard.packets → cells_held n e.kept patterns packets pending.decision round ≡ cells_made e.kept e.heard round
+cells_sent_held n e pending patterns packets A1 h due same_patterns same_packets = refl
+cells_sent_held n e pending patterns packets A2 h due same_patterns same_packets = same_patterns ∙ sym ((own_cells_hold e h.cells).pattern_echo (rw due (omega arith)))
+cells_sent_held n e pending patterns packets B1 h due same_patterns same_packets =
     ap (λ (d : Decision). own_packet e.kept d ∷ []) (h.agreed (rw due (omega arith))).decision
-cells_sent_held n e midst patterns packets B2 h due same_patterns same_packets =
+cells_sent_held n e pending patterns packets B2 h due same_patterns same_packets =
     let decision = (h.agreed (rw due (omega arith))).decision in
     (λ i. each_below (sym h.elements i) (where_relayed (decision i) (same_packets i))) ∙ sym ((own_cells_hold e h.cells).packet_echo (rw due (omega arith)))
 
 -- another step is due, after as many rounds of the cycle
-with_due : (n : ℕ) (e : ElementValue) (midst : Midst n) (due : Due) → IsElement n e midst → rounds_heard due ≡ rounds_heard e.due → e.kept.cycle < 100000
-    → IsElement n (record e { due = due }) midst
-with_due n e midst due h same low = record {
+with_due : (n : ℕ) (e : ElementValue) (pending : Pending n) (due : Due) → IsElement n e pending → rounds_heard due ≡ rounds_heard e.due → e.kept.cycle < 100000
+    → IsElement n (record e { due = due }) pending
+with_due n e pending due h same low = record {
   size = h.size;
   elements = h.elements;
   below = h.below;
@@ -117,9 +117,9 @@ heard_as_many B1 = refl
 heard_as_many B2 = refl
 
 -- sending changes what is due alone
-pub holds_sent : (n : ℕ) (e : ElementValue) (midst : Midst n) (round : Round) → IsElement n e midst → e.due ≡ Emit round → e.kept.cycle < 100000
-    → IsElement n (after_emit round e) midst
-holds_sent n e midst round h due low = with_due n e midst (Absorb round) h (heard_as_many round ∙ ap rounds_heard (sym due)) low
+pub holds_sent : (n : ℕ) (e : ElementValue) (pending : Pending n) (round : Round) → IsElement n e pending → e.due ≡ Emit round → e.kept.cycle < 100000
+    → IsElement n (after_emit round e) pending
+holds_sent n e pending round h due low = with_due n e pending (Absorb round) h (heard_as_many round ∙ ap rounds_heard (sym due)) low
 
 -- ---- what it hears
 
@@ -138,8 +138,8 @@ begun_by : (due : Due) (round : Round) → due ≡ Absorb round → has_begun du
 begun_by due round e = ap has_begun e
 
 -- after it took the patterns
-pub holds_patterns : (n : ℕ) (e : ElementValue) (midst : Midst n) (frames : ℕ → List ℕ) → IsElement n e midst → e.due ≡ Absorb A1 → IsElement n (after_absorb A1 frames e) midst
-holds_patterns n e midst frames h due = record {
+pub holds_patterns : (n : ℕ) (e : ElementValue) (pending : Pending n) (frames : ℕ → List ℕ) → IsElement n e pending → e.due ≡ Absorb A1 → IsElement n (after_absorb A1 frames e) pending
+holds_patterns n e pending frames h due = record {
   size = h.size;
   elements = h.elements;
   below = h.below;
@@ -149,9 +149,9 @@ holds_patterns n e midst frames h due = record {
 }
 
 -- after it took their echoes, with what it made of both
-pub holds_agreed : (n : ℕ) (e : ElementValue) (old midst : Midst n) (frames : ℕ → List ℕ) → IsElement n e old → e.due ≡ Absorb A2
-    → IsMidst n (after_absorb A2 frames e) midst → IsElement n (after_absorb A2 frames e) midst
-holds_agreed n e old midst frames h due agreed = record {
+pub holds_agreed : (n : ℕ) (e : ElementValue) (old pending : Pending n) (frames : ℕ → List ℕ) → IsElement n e old → e.due ≡ Absorb A2
+    → IsPending n (after_absorb A2 frames e) pending → IsElement n (after_absorb A2 frames e) pending
+holds_agreed n e old pending frames h due agreed = record {
   size = h.size;
   elements = h.elements;
   below = h.below;
@@ -161,8 +161,8 @@ holds_agreed n e old midst frames h due agreed = record {
 }
 
 -- after it took the packets
-pub holds_packets : (n : ℕ) (e : ElementValue) (midst : Midst n) (frames : ℕ → List ℕ) → IsElement n e midst → e.due ≡ Absorb B1 → IsElement n (after_absorb B1 frames e) midst
-holds_packets n e midst frames h due = record {
+pub holds_packets : (n : ℕ) (e : ElementValue) (pending : Pending n) (frames : ℕ → List ℕ) → IsElement n e pending → e.due ≡ Absorb B1 → IsElement n (after_absorb B1 frames e) pending
+holds_packets n e pending frames h due = record {
   size = h.size;
   elements = h.elements;
   below = h.below;
@@ -173,9 +173,9 @@ holds_packets n e midst frames h due = record {
 }
 
 -- after it took their echoes, before the cycle ends
-pub holds_echoes : (n : ℕ) (e : ElementValue) (midst : Midst n) (frames : ℕ → List ℕ) → IsElement n e midst → e.due ≡ Absorb B2
-    → IsElement n (record e { heard = heard_with e B2 frames }) midst
-holds_echoes n e midst frames h due = record {
+pub holds_echoes : (n : ℕ) (e : ElementValue) (pending : Pending n) (frames : ℕ → List ℕ) → IsElement n e pending → e.due ≡ Absorb B2
+    → IsElement n (record e { heard = heard_with e B2 frames }) pending
+holds_echoes n e pending frames h due = record {
   size = h.size;
   elements = h.elements;
   below = h.below;
@@ -214,13 +214,13 @@ own_put copies place me n own other same long below is =
     ap (λ k. cell_at (slice_set copies k own) me) same ∙ get_or-set_same copies me own None (rw long below) ∙ is
 
 -- what it makes of both rounds of patterns is what is to be made of what it heard
-pub agreed_midst : (n : ℕ) (e : ElementValue) (midst : Midst n) (x : Echoes) → e.kept.table.n ≡ n → HasOwnCells e → 1 ≤ rounds_heard e.due → x ≡ patterns_now e
-    → midst.results ≡ each_below n (result_for x)
-    → midst.pattern ≡ settled n x
-    → midst.decision ≡ scoreboard_decision e.kept.table e.kept.cycle (voted_flags e.kept.table (settled n x)) e.kept.scoreboard
-    → midst.after ≡ scoreboard_after e.kept.table e.kept.cycle (voted_flags e.kept.table (settled n x)) e.kept.scoreboard
-    → AreLinesOf e.kept.table midst.after → AreBefore (e.kept.cycle + 1) midst.after → IsMidst n e midst
-agreed_midst n e midst x size cells heard is results pattern decision after lines earlier =
+pub agreed_midst : (n : ℕ) (e : ElementValue) (pending : Pending n) (x : Echoes) → e.kept.table.n ≡ n → HasOwnCells e → 1 ≤ rounds_heard e.due → x ≡ patterns_now e
+    → pending.results ≡ each_below n (result_for x)
+    → pending.pattern ≡ settled n x
+    → pending.decision ≡ scoreboard_decision e.kept.table e.kept.cycle (voted_flags e.kept.table (settled n x)) e.kept.scoreboard
+    → pending.after ≡ scoreboard_after e.kept.table e.kept.cycle (voted_flags e.kept.table (settled n x)) e.kept.scoreboard
+    → AreLinesOf e.kept.table pending.after → AreBefore (e.kept.cycle + 1) pending.after → IsPending n e pending
+agreed_midst n e pending x size cells heard is results pattern decision after lines earlier =
     let echoes : x ≡ echoes_of e.kept.me (own_pattern e.kept) e.heard.patterns e.heard.relayed_patterns = is ∙ sym ((own_cells_hold e cells).patterns heard) in
     let agreed : settled n x ≡ pattern_now e = λ i. settled (sym size i) (echoes i) in
     record {

@@ -18,9 +18,9 @@ use Rattle.ftpp_base.specs.Lists.{cell_at, others}
 use Rattle.bit_vote.specs.Vote.{Cell, vote}
 use Rattle.element_ports.specs.Ports.{PortsValue, HasLimits}
 use Rattle.element_core.specs.Rejoins.{others_vote, IsVotedState}
-use Rattle.element_core.proofs.Standings.{Stands}
+use Rattle.element_core.proofs.KeptStates.{Stands}
 use Rattle.rejoin.specs.declared.AgreedState.{AgreedState}
-use Rattle.run.specs.Run.{AgreedState as Agreed}
+use Rattle.element_core.specs.Run.{AgreedState as Agreed}
 use Rattle.rejoin.specs.State.{RequestFits, LagsFit, RowFits, IsInRange, IsState, state_bytes}
 use Rattle.rejoin.proofs.Spelled.{one_state}
 use Rattle.rejoin.proofs.Rows.{made_in_range, numbered, requests, lags}

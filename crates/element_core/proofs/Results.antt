@@ -18,15 +18,15 @@ use Rattle.flag_vote.specs.Flags.{Pattern, voted_flags}
 use Rattle.syndrome_log.specs.declared.Syndrome.{Syndrome}
 use Rattle.syndrome_log.specs.Log.{last_kept}
 use Rattle.element_notes.specs.AtHand.{AreResults}
-use Rattle.run.specs.declared.Outcome3.{Outcome3}
-use Rattle.run.specs.Cycle.{update_in, update_outcome}
-use Rattle.run.specs.Element.{Kept, Heard, own_entry, own_update, own_service, own_delivery, own_handed, made, kept_with, kept_after}
-use Rattle.run.specs.Noted.{noted_by}
-use Rattle.element_core.specs.declared.midst.Midst.{Midst}
+use Rattle.element_core.specs.declared.Outcome3.{Outcome3}
+use Rattle.element_core.specs.Cycle.{update_in, update_outcome}
+use Rattle.element_core.specs.Element.{Kept, Heard, own_entry, own_update, own_service, own_delivery, own_handed, made, kept_with, kept_after}
+use Rattle.element_core.specs.Noted.{noted_by}
+use Rattle.element_core.specs.declared.pending.Pending.{Pending}
 use Rattle.element_core.specs.declared.Due.TheVariants.{Emit, Absorb}
 use Rattle.element_core.specs.ElementValue.{ElementValue, CycleTold, patterns_now, packets_now, pattern_now, decision_now, scoreboard_now, told_by, ended_with}
 use Rattle.element_core.specs.Frames.{FitsTable}
-use Rattle.element_core.specs.Midst.{element_with, IsElement}
+use Rattle.element_core.specs.Pending.{element_with, IsElement}
 use Rattle.element_core.specs.Steps.{HasOwnCells}
 use Rattle.element_core.proofs.StepLaws.{own_cells_hold}
 use Rattle.element_core.proofs.Ended.{fits_table, made_now, kept_now}
@@ -44,11 +44,11 @@ results_are n x counts sources results few is same = λ s l e.
     ap (λ cells. cell_at cells s) is ∙ at_place n (result_of sources x) s None l ∙ in_set x sources s (same s (omega arith) ∙ e)
 
 -- those of the patterns are those of all senders
-pub pattern_results : (n : ℕ) (e : ElementValue) (midst : Midst n) → IsElement n e midst → e.due ≡ Absorb B2 → AreResults n (patterns_now e) (λ s. true) midst.results
-pattern_results n e midst h due = λ s l count.
+pub pattern_results : (n : ℕ) (e : ElementValue) (pending : Pending n) → IsElement n e pending → e.due ≡ Absorb B2 → AreResults n (patterns_now e) (λ s. true) pending.results
+pattern_results n e pending h due = λ s l count.
     let agreed = h.agreed (rw due (omega arith)) in
     let held = (own_cells_hold e h.cells).patterns (rw due (omega arith)) in
-    let is : midst.results ≡ each_below n (result_for (patterns_now e)) = agreed.results ∙ (λ i. each_below (h.elements i) (result_for (held i))) in
+    let is : pending.results ≡ each_below n (result_for (patterns_now e)) = agreed.results ∙ (λ i. each_below (h.elements i) (result_for (held i))) in
     ap (λ cells. cell_at cells s) is ∙ at_place n (result_for (patterns_now e)) s None l
 
 -- ---- the decision
@@ -59,8 +59,8 @@ some_by n (inl e) = omega arith
 some_by n (inr e) = omega arith
 
 -- its decision is one of its table
-pub decision_fits_now : (n : ℕ) (e : ElementValue) (midst : Midst n) → IsElement n e midst → e.due ≡ Absorb B2 → IsValid e.kept.table → FitsTable n midst.decision
-decision_fits_now n e midst h due valid =
+pub decision_fits_now : (n : ℕ) (e : ElementValue) (pending : Pending n) → IsElement n e pending → e.due ≡ Absorb B2 → IsValid e.kept.table → FitsTable n pending.decision
+decision_fits_now n e pending h due valid =
     let decision = (h.agreed (rw due (omega arith))).decision in
     let flags = voted_flags e.kept.table (pattern_now e) in
     let fits = fits_table e.kept.table flags e.kept.cycle (marked e.kept.table flags e.kept.cycle e.kept.scoreboard) valid (rw h.elements (some_by n h.size)) in

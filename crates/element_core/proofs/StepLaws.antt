@@ -11,15 +11,15 @@ use Rattle.bit_vote.specs.Vote.{Cell}
 use Rattle.frame_format.specs.Frames.{reads_as}
 use Rattle.two_round.specs.Echoes.{Echoes}
 use Rattle.two_round.proofs.Agreement.{at_place}
-use Rattle.run.proofs.PhaseLaws.{kept_size}
+use Rattle.element_core.proofs.PhaseLaws.{kept_size}
 use Rattle.table_update.specs.declared.Update.{Update}
 use Rattle.table_update.specs.declared.Applied.{Applied}
 use Rattle.table_update.specs.declared.Applied.TheVariants as applied_variant
 use Rattle.table_update.specs.Updates.{applied}
-use Rattle.run.specs.Cycle.{update_in}
-use Rattle.run.specs.Element.{Kept, Heard, Made, own_packet, own_update, made, kept_by, kept_with, kept_after}
-use Rattle.run.specs.Noted.{own_pattern, where_relayed}
-use Rattle.run.specs.Phases.{no_cells}
+use Rattle.element_core.specs.Cycle.{update_in}
+use Rattle.element_core.specs.Element.{Kept, Heard, Made, own_packet, own_update, made, kept_by, kept_with, kept_after}
+use Rattle.element_core.specs.Noted.{own_pattern, where_relayed}
+use Rattle.element_core.specs.Phases.{no_cells}
 use Rattle.element_core.specs.ElementValue.{own_cells, cells_taken, heard_with, ended_with, decision_now}
 use Rattle.element_core.specs.Steps.{OwnCellsBegin, OwnCellsStay, OwnCellsHold, CycleOfSteps}
 

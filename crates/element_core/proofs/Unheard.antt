@@ -17,15 +17,16 @@ use Rattle.syndrome_log.specs.declared.Syndrome.{Syndrome}
 use Rattle.syndrome_log.specs.declared.SyndromeKind.{SyndromeKind}
 use Rattle.syndrome_log.specs.declared.SyndromeKind.TheVariants as kind
 use Rattle.syndrome_log.specs.Log.{last_kept}
-use Rattle.run.specs.Sent.{is_relayed}
-use Rattle.run.specs.Syndromes.{accused_where, differs}
+use Rattle.element_core.specs.Sent.{is_relayed}
+use Rattle.element_core.specs.Syndromes.{accused_where, differs}
 use Rattle.flag_vote.specs.Flags.{voted_flags}
 use Rattle.scoreboard.specs.Choice.{scoreboard_after}
 use Rattle.ftpp_base.specs.declared.element.Round.TheVariants.{A1}
-use Rattle.run.specs.Cycle.{update_in, update_outcome}
-use Rattle.run.specs.Phases.{nothing_heard}
-use Rattle.run.specs.Element.{echoes_of, own_entry, own_update, own_packet, own_handed, own_service, own_delivery, kept_with, made, kept_after}
-use Rattle.run.specs.Noted.{off_copies, off_relays, off_values, own_compared, absent_ones, full_ones, own_pattern, noted_by}
+use Rattle.element_core.specs.Cycle.{update_in, update_outcome}
+use Rattle.element_core.specs.Phases.{nothing_heard}
+use Rattle.element_core.specs.Element.{echoes_of, own_entry, own_update, own_packet, own_handed, own_service, own_delivery, kept_with, made, kept_after}
+use Rattle.element_notes.specs.Notes.{notes_of}
+use Rattle.element_core.specs.Noted.{off_copies, off_relays, off_values, own_compared, absent_ones, full_ones, own_pattern, own_entry_row}
 use Rattle.element_core.specs.declared.Due.TheVariants.{Emit}
 use Rattle.element_core.specs.ElementValue.{ElementValue, pattern_now, decision_now, ended_with}
 use Rattle.element_core.specs.Quiet.{is_quiet}
@@ -92,7 +93,7 @@ values_by_kind (Source s) table service x r e = cc
 values_by_kind Every table service x r e = cc
 
 pub values_quiet : (cycle : ℕ) (table : TableValue) (d : Decision) (x : Echoes) (r : List (List Cell)) → is_quiet d ≡ true
-    → off_values cycle table x d ≡ off_values cycle table (with_relays x r) d
+    → off_values cycle table x d (own_entry_row table d x) ≡ off_values cycle table (with_relays x r) d (own_entry_row table d (with_relays x r))
 values_quiet cycle table Idle x r e = refl
 values_quiet cycle table (Discard vid desc number admitted waited) x r e = refl
 values_quiet cycle table (Exchange service) x r e =
@@ -101,7 +102,7 @@ values_quiet cycle table (Exchange service) x r e =
 -- ---- the element after the cycle
 
 pub ended_quiet : (e : ElementValue) (r : List (List Cell)) → is_quiet (decision_now e) ≡ true → ended_with e e.heard ≡ ended_with e (record e.heard { relayed_packets = r })
-unfolding ended_with made kept_after noted_by
+unfolding ended_with made kept_after notes_of
 ended_quiet e r quiet =
     let n = e.kept.table.n in
     let cycle = e.kept.cycle in

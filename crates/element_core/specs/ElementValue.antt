@@ -5,7 +5,7 @@ use Rattle.ftpp_base.specs.declared.element.Round.{Round}
 use Rattle.ftpp_base.specs.declared.element.Slot.{Slot}
 use Rattle.ftpp_base.specs.declared.element.Round.TheVariants.{A1, A2, B1, B2}
 use Rattle.packet_format.specs.declared.Packet.{Packet}
-use Rattle.packet_format.specs.declared.Act.{Act}
+use Rattle.packet_format.specs.declared.acts.Act.{Act}
 use Rattle.bit_vote.specs.Vote.{Cell}
 use Rattle.two_round.specs.Echoes.{Echoes}
 use Rattle.config_table.specs.declared.decisions.Decision.{Decision}
@@ -17,13 +17,13 @@ use Rattle.scoreboard.specs.Choice.{scoreboard_after}
 use Rattle.processor_buffers.specs.declared.Handed.{Handed}
 use Rattle.syndrome_log.specs.declared.Syndrome.{Syndrome}
 use Rattle.syndrome_log.specs.Log.{last_kept}
-use Rattle.run.specs.declared.Outcome3.{Outcome3}
-use Rattle.run.specs.Processors.{empty_ports}
-use Rattle.run.specs.Run.{AgreedState}
-use Rattle.run.specs.Element.{Kept, Heard, Made, echoes_of, settled, own_packet, made, kept_after}
-use Rattle.run.specs.Noted.{own_pattern, decided_by, cells_made, noted_by}
-use Rattle.run.specs.AloneRun.{own_act}
-use Rattle.run.specs.Phases.{no_cells, nothing_heard, with_heard}
+use Rattle.element_core.specs.declared.Outcome3.{Outcome3}
+use Rattle.element_core.specs.Processors.{empty_ports}
+use Rattle.element_core.specs.Run.{AgreedState}
+use Rattle.element_core.specs.Element.{Kept, Heard, Made, echoes_of, settled, own_packet, made, kept_after}
+use Rattle.element_core.specs.Noted.{own_pattern, decided_by, cells_made, noted_by}
+use Rattle.element_core.specs.AloneRun.{own_act}
+use Rattle.element_core.specs.Phases.{no_cells, nothing_heard, with_heard}
 use Rattle.element_core.specs.declared.Due.{Due}
 use Rattle.element_core.specs.declared.Due.TheVariants.{Emit, Absorb}
 
@@ -137,7 +137,7 @@ after_absorb A2 frames e = record e { heard = heard_with e A2 frames; due = Emit
 after_absorb B1 frames e = record e { heard = heard_with e B1 frames; due = Emit B2 }
 after_absorb B2 frames e = ended_with e (heard_with e B2 frames)
 
--- ---- in the midst of a cycle
+-- ---- in the middle of a cycle
 
 -- how many rounds of the cycle were heard
 abbrev pub rounds_heard : Due → ℕ

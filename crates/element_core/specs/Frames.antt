@@ -8,8 +8,8 @@ use Rattle.two_round.specs.Echoes.{Echoes}
 use Rattle.config_table.specs.declared.decisions.Decision.{Decision}
 use Rattle.config_table.specs.declared.decisions.Decision.TheVariants.{Idle, Discard, Exchange}
 use Rattle.data_exchange.specs.Entries.{is_voted, IsSourceAmong}
-use Rattle.run.specs.Element.{Kept, own_packet}
-use Rattle.run.specs.Noted.{own_pattern, where_relayed}
+use Rattle.element_core.specs.Element.{Kept, own_packet}
+use Rattle.element_core.specs.Noted.{own_pattern, where_relayed}
 
 -- the cells of its frame of a round, where the decision is known and its own cells stand in their places
 abbrev pub cells_held : ℕ → Kept → Echoes → Echoes → Decision → Round → List Cell

@@ -3,7 +3,7 @@ use Rattle.std.specs.Prelude.{◌≡◌, ◌≢◌, ℕ, ◌<◌, ◌⊎◌, Lis
 use Rattle.ftpp_base.specs.Lists.{cell_at, others}
 use Rattle.bit_vote.specs.Vote.{Cell, IsCell, vote}
 use Rattle.rejoin.specs.State.{IsState}
-use Rattle.run.specs.Run.{AgreedState}
+use Rattle.element_core.specs.Run.{AgreedState}
 use Rattle.element_core.specs.declared.Rejoined.{Rejoined}
 use Rattle.element_core.specs.declared.Rejoined.TheVariants.{Taken, Refused}
 use Rattle.element_core.specs.ElementValue.{ElementValue, rejoined_with}

@@ -3,10 +3,10 @@ use Rattle.std.specs.Prelude.{◌≡◌, ℕ, ◌<◌, ◌≤◌, List, [], leng
 use Rattle.ftpp_base.specs.Lists.{each_below, cell_at}
 use Rattle.ftpp_base.specs.declared.element.Round.{Round}
 use Rattle.ftpp_base.specs.declared.element.Round.TheVariants.{A1, A2, B1, B2}
-use Rattle.run.specs.Element.{Kept, echoes_of, own_packet}
-use Rattle.run.specs.Noted.{own_pattern, where_relayed, cells_made}
-use Rattle.run.specs.Phases.{no_cells}
-use Rattle.run.specs.Together.{Carried, heard_of}
+use Rattle.element_core.specs.Element.{Kept, echoes_of, own_packet}
+use Rattle.element_core.specs.Noted.{own_pattern, where_relayed, cells_made}
+use Rattle.element_core.specs.Phases.{no_cells}
+use Rattle.element_core.specs.Together.{Carried, heard_of}
 use Rattle.element_core.specs.declared.Due.TheVariants.{Absorb}
 use Rattle.element_core.specs.ElementValue.{ElementValue, begins_with, after_emit, after_absorb, cells_taken, ended_with, rounds_heard, decision_now}
 

@@ -4,7 +4,7 @@ ghost use Rattle.std.specs.Prelude.{◌≡◌};
 ghost use Rattle.element_core.specs.ElementValue.{after_absorb, heard_with, frames_in};
 
 use crate::hearing::{hear_copies, hear_echoes};
-use crate::midst::is_quiet;
+use crate::pending::is_quiet;
 use crate::{Due, Element};
 use ftpp_base::Round;
 use link_fabric::Link;
@@ -37,7 +37,7 @@ impl<const N: usize> Element<N> {
         ensures came { L.came link.new ≡ L.came link.old }
         ensures leaves { L.leaves link.new ≡ L.leaves link.old }
     {
-        if is_quiet(&self.midst.decision) {
+        if is_quiet(&self.pending.decision) {
             self.end_cycle();
         } else {
             self.hear_packet_echoes(link);
@@ -83,7 +83,7 @@ impl<const N: usize> Element<N> {
             &mut self.frame,
             &mut self.patterns,
         );
-        self.midst.decide(&self.kept, &self.patterns);
+        self.pending.decide(&self.kept, &self.patterns);
         self.due = Due::Emit(Round::B1);
     }
 
@@ -97,7 +97,7 @@ impl<const N: usize> Element<N> {
         ensures leaves { L.leaves link.new ≡ L.leaves link.old }
     {
         let slot = self.kept.slot(Round::B1);
-        self.packets.first(self.kept.packet(&self.midst.decision));
+        self.packets.first(self.kept.packet(&self.pending.decision));
         hear_copies(
             slot,
             self.kept.me(),

@@ -1,16 +1,16 @@
 //! One element.
 
 ghost use Rattle.std.specs.Prelude.{◌≡◌, ◌<◌, ◌≤◌, ◌⊎◌, option_map, option_copied, Some, IfOk, is_ok, if◌then◌else◌};
-ghost use Rattle.packet_format.specs.declared.Act.TheVariants.{Post, Read};
-ghost use Rattle.packet_format.specs.declared.ActAnswer.TheVariants.{Posted as Accepted, PostFull as Full};
+ghost use Rattle.packet_format.specs.declared.acts.Act.TheVariants.{Post, Read};
+ghost use Rattle.packet_format.specs.declared.acts.ActAnswer.TheVariants.{Posted as Accepted, PostFull as Full};
 ghost use Rattle.two_round.specs.Echoes.{no_echoes};
-ghost use Rattle.run.specs.Processors.{read_answer};
-ghost use Rattle.run.specs.AloneRun.{own_answer};
+ghost use Rattle.element_core.specs.Processors.{read_answer};
+ghost use Rattle.element_core.specs.AloneRun.{own_answer};
 ghost use Rattle.element_core.specs.ElementValue.{fresh, after_own_act};
 ghost use Rattle.element_core.specs.Told.{told_of};
 
-use crate::midst::Midst;
-use crate::standing::Standing;
+use crate::kept_state::KeptState;
+use crate::pending::Pending;
 use crate::{CycleRecord, Due};
 use bit_vote::Cells;
 use config_table::{Decision, Table};
@@ -37,10 +37,10 @@ fn unheard<const N: usize>(me: Ne) -> (TwoRound<N, 32>, TwoRound<N, 64>)
 /// One of `N` elements, 4 or 5. In each round it puts one frame for each other element, and then takes one from each.
 #[derive(Drop)]
 pub struct Element<const N: usize> {
-    pub(crate) kept: Standing,
+    pub(crate) kept: KeptState,
     pub(crate) patterns: TwoRound<N, 32>,
     pub(crate) packets: TwoRound<N, 64>,
-    pub(crate) midst: Midst<N>,
+    pub(crate) pending: Pending<N>,
     pub(crate) due: Due,
     pub(crate) last: Option<CycleRecord<N>>,
     pub(crate) log: SyndromeLog,
@@ -52,13 +52,13 @@ impl<const N: usize> Model for Element<N> {
     ghost use Rattle.std.specs.Prelude.{◌≡◌, option_map};
     ghost use Rattle.element_core.specs.ElementValue.{ElementValue};
     ghost use Rattle.element_core.specs.Told.{told_of};
-    ghost use Rattle.element_core.specs.Midst.{element_with, IsElement};
+    ghost use Rattle.element_core.specs.Pending.{element_with, IsElement};
 
     ghost Value = { ElementValue };
 
     ghost view = { λ e. element_with e.kept e.patterns e.packets e.due (option_map told_of e.last) e.log };
 
-    ghost invariant = { λ e. IsElement N (element_with e.kept e.patterns e.packets e.due (option_map told_of e.last) e.log) e.midst × (e.patterns.me ≡ e.kept.me) × (e.packets.me ≡ e.kept.me) };
+    ghost invariant = { λ e. IsElement N (element_with e.kept e.patterns e.packets e.due (option_map told_of e.last) e.log) e.pending × (e.patterns.me ≡ e.kept.me) × (e.packets.me ≡ e.kept.me) };
 }
 
 impl<const N: usize> Element<N> {
@@ -70,14 +70,14 @@ impl<const N: usize> Element<N> {
     {
         // a table has four or five elements
         let _elements = table.n();
-        let kept = Standing::new(alloc, me, table)?;
+        let kept = KeptState::new(alloc, me, table)?;
         let log = SyndromeLog::new(alloc)?;
         let (patterns, packets) = unheard(me);
         Ok(Element {
             kept,
             patterns,
             packets,
-            midst: Midst {
+            pending: Pending {
                 results: Cells::absent(),
                 pattern: SystemPattern::quiet(),
                 decision: Decision::Idle,

@@ -3,16 +3,16 @@
 ghost use Rattle.std.specs.Prelude.{◌≡◌, ◌<◌, ◌⊎◌, ℕ, ◌==◌, if◌then◌else◌};
 ghost use Rattle.ftpp_base.specs.Lists.{each_below};
 ghost use Rattle.frame_format.specs.Frames.{frame_bytes};
-ghost use Rattle.run.specs.Noted.{where_relayed};
+ghost use Rattle.element_core.specs.Noted.{where_relayed};
 ghost use Rattle.element_core.specs.ElementValue.{after_emit, frame_of, frames_in};
 ghost use Rattle.element_core.specs.Frames.{cells_held};
 
+use crate::kept_state::KeptState;
 use crate::sending::send_all;
-use crate::standing::Standing;
 use crate::{Due, Element};
 use bit_vote::Cells;
 use config_table::Decision;
-use element_notes::is_relayed;
+use element_notes::relayed;
 use frame_format::{FrameBuf, encode, encode_one};
 use ftpp_base::{Ne, Round};
 use link_fabric::Link;
@@ -35,7 +35,7 @@ impl<const N: usize> Element<N> {
             &self.kept,
             &self.patterns,
             &self.packets,
-            &self.midst.decision,
+            &self.pending.decision,
             &mut self.frame,
         );
         send_all(self.kept.me(), &self.frame, link);
@@ -46,7 +46,7 @@ impl<const N: usize> Element<N> {
 /// Writes the frame of a round.
 fn write_frame<const N: usize>(
     round: Round,
-    kept: &Standing,
+    kept: &KeptState,
     patterns: &TwoRound<N, 32>,
     packets: &TwoRound<N, 64>,
     decision: &Decision,
@@ -72,11 +72,23 @@ fn relayed_packets<const N: usize>(packets: &TwoRound<N, 64>, decision: &Decisio
 {
     let mut cells = Cells::absent();
     for k in 0..N {
-        if let Some(sender) = Ne::new(k as u8, N as u8) {
-            if is_relayed(decision, sender) {
-                cells.set(k, packets.copy(sender));
-            }
-        }
+        cells.set(k, relayed_cell(packets, decision, Ne::at(k)));
     }
     cells
+}
+
+/// The cell about a sender: the copy that the element holds, where that is relayed.
+fn relayed_cell<const N: usize>(
+    packets: &TwoRound<N, 64>,
+    decision: &Decision,
+    sender: Ne,
+) -> Option<[u8; 64]>
+    requires { sender < N }
+    ensures { result ≡ where_relayed decision.now packets.now.copies sender }
+{
+    if relayed(decision).has(sender.byte()) {
+        packets.copy(sender)
+    } else {
+        None
+    }
 }

@@ -2,9 +2,9 @@
 
 ghost use Rattle.std.specs.Prelude.{◌≡◌, ◌≤◌, option_copied};
 ghost use Rattle.element_notes.specs.AtHand.{AreResults};
-ghost use Rattle.run.specs.Sent.{is_relayed};
-ghost use Rattle.run.specs.Element.{own_entry, own_update, made};
-ghost use Rattle.run.specs.Noted.{noted_by};
+ghost use Rattle.element_core.specs.Sent.{is_relayed};
+ghost use Rattle.element_core.specs.Element.{own_entry, own_update, made};
+ghost use Rattle.element_core.specs.Noted.{noted_by};
 ghost use Rattle.element_core.specs.ElementValue.{ended_with, decision_now, packets_now};
 ghost use Rattle.element_core.specs.Frames.{FitsTable};
 
@@ -24,28 +24,32 @@ impl<const N: usize> Element<N> {
         requires { self.old.due ≡ Due.Absorb Round.B2 }
         ensures { self.new ≡ ended_with self.old self.old.heard }
     {
-        let results = self.packets.results_of(relayed(&self.midst.decision));
+        let results = self.packets.results_of(relayed(&self.pending.decision));
         let packet = entry_of(
             self.kept.table(),
-            &self.midst.decision,
+            &self.pending.decision,
             &self.packets,
             &results,
         );
         let asked = update_of(
             self.kept.table(),
-            &self.midst.decision,
+            &self.pending.decision,
             &self.packets,
             &results,
         );
         let syndromes = self.noted(&results, packet.as_ref());
         self.log.extend_from_slice(syndromes.as_slice());
         let cycle = self.kept.cycle();
-        let handed = self.kept.serve(&self.midst.decision, packet.as_ref(), &mut self.midst.after);
+        let handed = self.kept.serve(
+            &self.pending.decision,
+            packet.as_ref(),
+            &mut self.pending.after,
+        );
         let update = self.kept.update(&asked);
         self.last = Some(CycleRecord {
             cycle,
-            pattern: self.midst.pattern,
-            decision: self.midst.decision,
+            pattern: self.pending.pattern,
+            decision: self.pending.decision,
             packet,
             handed,
             update,
@@ -68,10 +72,10 @@ impl<const N: usize> Element<N> {
             me: self.kept.me(),
             cycle: self.kept.cycle(),
             table: self.kept.table(),
-            pattern: &self.midst.pattern,
-            decision: &self.midst.decision,
+            pattern: &self.pending.pattern,
+            decision: &self.pending.decision,
             patterns: &self.patterns,
-            pattern_results: &self.midst.results,
+            pattern_results: &self.pending.results,
             packets: &self.packets,
             packet_results: results,
             entry,

@@ -33,9 +33,8 @@ pub(crate) fn hear_copies<const N: usize, const B: usize, L: Link<N>>(
     ensures leaves { L.leaves link.new ≡ L.leaves link.old }
 {
     for k in 0..N {
-        if let Some(sender) = Ne::new(k as u8, N as u8) {
-            hear_copy(slot, me, sender, link, frame, exchange);
-        }
+        let sender = Ne::at(k);
+        hear_copy(slot, me, sender, link, frame, exchange);
     }
 }
 
@@ -96,9 +95,7 @@ pub(crate) fn hear_echoes<const N: usize, const B: usize, L: Link<N>>(
     ensures leaves { L.leaves link.new ≡ L.leaves link.old }
 {
     for k in 0..N {
-        if let Some(relay) = Ne::new(k as u8, N as u8) {
-            hear_echo(slot, me, relay, link, frame, exchange);
-        }
+        hear_echo(slot, me, Ne::at(k), link, frame, exchange);
     }
 }
 

@@ -2,12 +2,12 @@
 
 ghost use Rattle.std.specs.Prelude.{◌≡◌};
 
+use crate::Outcome3;
 use config_table::Decision;
 use ftpp_base::{Ne, Proc, Row};
 use local_pattern::SystemPattern;
 use packet_format::{ActAnswer, Packet};
 use processor_buffers::Handed;
-use run::Outcome3;
 use syndrome_log::Syndrome;
 
 /// What one element made of a cycle.

@@ -2,7 +2,7 @@
 
 ghost use Rattle.std.specs.Prelude.{◌≡◌, ◌<◌, ◌≤◌, Some, None, IfSome};
 ghost use Rattle.rejoin.specs.State.{IsInRange};
-ghost use Rattle.run.specs.Run.{AgreedState as Agreed};
+ghost use Rattle.element_core.specs.Run.{AgreedState as Agreed};
 ghost use Rattle.element_core.specs.ElementValue.{begins_with, fresh, rejoined_with, state_of};
 ghost use Rattle.element_core.specs.Rejoins.{IsStateOf, others_vote, IsVotedState, IsRejoined};
 

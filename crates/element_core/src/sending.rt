@@ -16,9 +16,7 @@ pub(crate) fn send_all<const N: usize, L: Link<N>>(me: Ne, frame: &FrameBuf, lin
     ensures came { L.came link.new ≡ L.came link.old }
 {
     for k in 0..N {
-        if let Some(to) = Ne::new(k as u8, N as u8) {
-            send(me, to, frame, link);
-        }
+        send(me, Ne::at(k), frame, link);
     }
 }
 

@@ -3,19 +3,19 @@
 ghost use Rattle.std.specs.Prelude.{◌≡◌, ◌+◌, ◌<◌, Some, None, option_copied};
 ghost use Rattle.scoreboard.specs.Times.{AreLinesOf, AreBefore, OnlyMembersLag};
 ghost use Rattle.table_update.specs.Updates.{applied, named_group, read_update};
-ghost use Rattle.run.specs.Cycle.{outcome_of, read_outcome, update_in, update_outcome};
-ghost use Rattle.run.specs.Element.{own_service, own_delivery, own_handed, kept_by, kept_with};
+ghost use Rattle.element_core.specs.Cycle.{outcome_of, read_outcome, update_in, update_outcome};
+ghost use Rattle.element_core.specs.Element.{own_service, own_delivery, own_handed, kept_by, kept_with};
 
-use crate::standing::Standing;
+use crate::Outcome3;
+use crate::kept_state::KeptState;
 use config_table::Decision;
 use ftpp_base::Proc;
 use packet_format::Packet;
 use processor_buffers::Handed;
-use run::Outcome3;
 use scoreboard::Scoreboard;
 use table_update::{Applied, Update, apply, read_update};
 
-impl Standing {
+impl KeptState {
     /// Serves a cycle's decision: the head of the admitted member here goes, and the entry is delivered, if the decision
     /// asks for it. The scoreboard after the decision takes the place of the one before, and the next cycle comes.
     pub(crate) fn serve(
@@ -72,8 +72,6 @@ impl Standing {
         ensures kept { self.new ≡ kept_by (applied self.old.table update.now) update.now self.old }
         ensures outcome { result ≡ outcome_of (applied self.old.table update.now) }
     {
-        // a table is valid by its type
-        let _valid = self.table.n();
         match apply(&mut self.table, update) {
             Applied::Done(cleared) => {
                 self.scoreboard

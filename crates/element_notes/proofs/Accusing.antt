@@ -4,16 +4,17 @@ use Rattle.std.specs.Prelude.{filter}
 use Rattle.ftpp_base.specs.Lists.{below}
 use Rattle.ftpp_base.specs.Sets.{has}
 use Rattle.ftpp_base.specs.declared.sets.Set8.{Set8}
+use Rattle.bit_vote.specs.Vote.{Cell}
 use Rattle.two_round.specs.Echoes.{Echoes}
 use Rattle.config_table.specs.declared.decisions.Decision.{Decision}
 use Rattle.config_table.specs.declared.decisions.Decision.TheVariants.{Idle, Discard, Exchange}
 use Rattle.config_table.specs.Table.{TableValue}
-use Rattle.flag_vote.specs.Flags.{Pattern}
+use Rattle.local_pattern.specs.Columns.{Pattern}
 use Rattle.syndrome_log.specs.declared.SyndromeKind.{SyndromeKind}
 use Rattle.syndrome_log.specs.declared.SyndromeKind.TheVariants as kind
 use Rattle.syndrome_log.specs.Log.{noted}
-use Rattle.run.specs.Noted.{absent_ones, full_ones, off_values}
-use Rattle.run.specs.Syndromes.{accused_where}
+use Rattle.element_notes.specs.Notes.{absent_ones, full_ones, off_values}
+use Rattle.element_notes.specs.Notes.{accused_where}
 use Rattle.element_notes.specs.declared.entries.Heading.{Heading}
 use Rattle.element_notes.specs.declared.entries.Accused.TheVariants.{Itself}
 use Rattle.element_notes.specs.Words.{entry_about, entries_about, is_absent, is_full, is_off}
@@ -44,8 +45,8 @@ full_entries cycle table pattern Idle = none_accused cycle kind.O table.n
 full_entries cycle table pattern (Discard vid desc number admitted waited) = none_accused cycle kind.O table.n
 full_entries cycle table pattern (Exchange service) = refl
 
-pub off_entries : (cycle : ℕ) (table : TableValue) (x : Echoes) (decision : Decision)
-    → accused_where cycle kind.V (is_off table x decision) (below table.n) ≡ off_values cycle table x decision
-off_entries cycle table x Idle = none_accused cycle kind.V table.n
-off_entries cycle table x (Discard vid desc number admitted waited) = none_accused cycle kind.V table.n
-off_entries cycle table x (Exchange service) = refl
+pub off_entries : (cycle : ℕ) (table : TableValue) (x : Echoes) (decision : Decision) (entry : Cell)
+    → accused_where cycle kind.V (is_off table x decision entry) (below table.n) ≡ off_values cycle table x decision entry
+off_entries cycle table x Idle entry = none_accused cycle kind.V table.n
+off_entries cycle table x (Discard vid desc number admitted waited) entry = none_accused cycle kind.V table.n
+off_entries cycle table x (Exchange service) entry = refl

@@ -8,22 +8,21 @@ use Rattle.std.proofs.lemmas.List.Sums.{length-filter, count_by-le-length}
 use Rattle.ftpp_base.specs.Lists.{below, others, cell_at}
 use Rattle.ftpp_base.specs.Sets.{has}
 use Rattle.ftpp_base.proofs.Counts.{count_apart}
-use Rattle.bit_vote.specs.Vote.{same_cell}
+use Rattle.bit_vote.specs.Vote.{Cell, same_cell}
 use Rattle.two_round.specs.Echoes.{Echoes, relayed_at, result_for}
 use Rattle.config_table.specs.declared.decisions.Decision.{Decision}
 use Rattle.config_table.specs.declared.decisions.Decision.TheVariants.{Idle, Discard, Exchange}
 use Rattle.config_table.specs.Table.{TableValue}
-use Rattle.flag_vote.specs.Flags.{Pattern}
+use Rattle.local_pattern.specs.Columns.{Pattern}
 use Rattle.syndrome_log.specs.declared.Syndrome.{Syndrome}
 use Rattle.syndrome_log.specs.declared.SyndromeKind.{SyndromeKind}
 use Rattle.syndrome_log.specs.declared.SyndromeKind.TheVariants as kind
 use Rattle.syndrome_log.specs.Log.{noted}
-use Rattle.data_exchange.specs.Entries.{senders}
-use Rattle.run.specs.Element.{Kept, Made}
-use Rattle.run.specs.Noted.{is_off_copy, is_off_relay, off_copies, off_by, off_relays, absent_ones, full_ones, is_off_value, off_values, noted_by}
-use Rattle.run.specs.Sent.{is_relayed}
-use Rattle.run.specs.Syndromes.{accused_where, is_left_out, stands_at}
-use Rattle.element_notes.specs.AtHand.{HasParts}
+use Rattle.config_table.specs.Members.{senders}
+use Rattle.element_notes.specs.Notes.{is_off_copy, is_off_relay, off_copies, off_by, off_relays, absent_ones, full_ones, is_off_value, off_values}
+use Rattle.config_table.specs.Kinds.{is_relayed}
+use Rattle.element_notes.specs.Notes.{accused_where}
+use Rattle.config_table.specs.Members.{is_left_out, stands_at}
 use Rattle.element_notes.proofs.OffRows.{filter_range-same}
 
 -- ---- which senders count
@@ -63,18 +62,18 @@ not_left_out true false rest e = cc
 not_left_out false here rest e = refl
 
 -- a member is not admitted, or its value may differ, and not both
-pub five_members : (cycle : ℕ) (table : TableValue) (x : Echoes) (decision : Decision) → table.n ≤ 5
-    → length (absent_ones cycle table decision) + length (off_values cycle table x decision) ≤ 5
-five_members cycle table x Idle few = omega arith
-five_members cycle table x (Discard vid desc number admitted waited) few =
+pub five_members : (cycle : ℕ) (table : TableValue) (x : Echoes) (decision : Decision) (entry : Cell) → table.n ≤ 5
+    → length (absent_ones cycle table decision) + length (off_values cycle table x decision entry) ≤ 5
+five_members cycle table x Idle entry few = omega arith
+five_members cycle table x (Discard vid desc number admitted waited) entry few =
     let test = is_left_out table vid admitted in
     let count = accused_few cycle kind.R test table.n in
     let most = count_by-le-length test (below table.n) in
     let long = length-range_with_len 0 table.n in
     omega arith
-five_members cycle table x (Exchange service) few =
+five_members cycle table x (Exchange service) entry few =
     let absent = is_left_out table service.vid service.admitted in
-    let off = is_off_value table service x in
+    let off = is_off_value table service x entry in
     let one = accused_few cycle kind.R absent table.n in
     let other = accused_few cycle kind.V off table.n in
     let apart = count_apart absent off (below table.n) (λ ne e. not_left_out (has service.admitted ne) (stands_at (senders table service.vid) ne) _ e) in
@@ -97,30 +96,3 @@ in_order none a b c d e f g o2 o3 o4 o6 o7 e0 e2 e3 e4 e6 e7 =
     ∙ ap (λ l. l ++ d ++ e ++ f ++ g) e3
     ∙ ap (λ l. l ++ c ++ d ++ e ++ f ++ g) e2
     ∙ ap (λ l. l ++ a ++ b ++ c ++ d ++ e ++ f ++ g) e0
-
--- and these are what the element notes
-pub noted_parts : (cycle : ℕ) (table : TableValue) (pattern : Pattern) (decision : Decision) (patterns packets : Echoes) (kept : Kept) (m : Made)
-    → HasParts cycle table pattern decision patterns packets kept m
-    → off_copies cycle kind.P1 patterns table.n (λ s. true)
-    ++ off_relays cycle kind.P2 patterns table.n (λ s. true)
-    ++ absent_ones cycle table decision
-    ++ full_ones cycle table pattern decision
-    ++ off_copies cycle kind.D1 packets table.n (is_relayed decision)
-    ++ off_relays cycle kind.D2 packets table.n (is_relayed decision)
-    ++ off_values cycle table packets decision
-    ≡ noted_by kept m
-unfolding noted_by
-noted_parts cycle table pattern decision patterns packets kept m h = λ t.
-    let cycle' = sym h.kept_cycle t in
-    let table' = sym h.kept_table t in
-    let pattern' = sym h.made_pattern t in
-    let decision' = sym h.made_decision t in
-    let patterns' = sym h.made_patterns t in
-    let packets' = sym h.made_packets t in
-    off_copies cycle' kind.P1 patterns' table'.n (λ s. true)
-    ++ off_relays cycle' kind.P2 patterns' table'.n (λ s. true)
-    ++ absent_ones cycle' table' decision'
-    ++ full_ones cycle' table' pattern' decision'
-    ++ off_copies cycle' kind.D1 packets' table'.n (is_relayed decision')
-    ++ off_relays cycle' kind.D2 packets' table'.n (is_relayed decision')
-    ++ off_values cycle' table' packets' decision'

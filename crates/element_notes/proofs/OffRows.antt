@@ -17,7 +17,7 @@ use Rattle.two_round.proofs.OthersMore.{others_same, others_more}
 use Rattle.syndrome_log.specs.declared.Syndrome.{Syndrome}
 use Rattle.syndrome_log.specs.declared.SyndromeKind.{SyndromeKind}
 use Rattle.syndrome_log.specs.Log.{noted}
-use Rattle.run.specs.Noted.{is_off_copy, is_off_relay, off_copies, off_by}
+use Rattle.element_notes.specs.Notes.{is_off_copy, is_off_relay, off_copies, off_by}
 use Rattle.element_notes.specs.declared.entries.Heading.{Heading}
 use Rattle.element_notes.specs.declared.entries.Accused.TheVariants.{Itself, Relay}
 use Rattle.element_notes.specs.Words.{entry_about, entries_about, is_off_word}

@@ -11,10 +11,10 @@ use Rattle.ftpp_base.specs.declared.sets.Set8.{Set8}
 use Rattle.config_table.specs.declared.groups.Group.{Group}
 use Rattle.config_table.specs.Groups.{live_members}
 use Rattle.config_table.specs.Table.{TableValue, group_named}
-use Rattle.flag_vote.specs.Words.{unmasked_from}
-use Rattle.flag_vote.proofs.Counted.{unmasked_more}
-use Rattle.data_exchange.specs.Entries.{senders}
-use Rattle.run.specs.Syndromes.{stands_at}
+use Rattle.config_table.specs.Members.{unmasked_from}
+use Rattle.config_table.proofs.Unmasked.{unmasked_more}
+use Rattle.config_table.specs.Members.{senders}
+use Rattle.config_table.specs.Members.{stands_at}
 use Rattle.element_notes.proofs.RelaySets.{no_elements, has_none}
 
 -- ---- one member more

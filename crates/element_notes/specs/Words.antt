@@ -12,11 +12,11 @@ use Rattle.config_table.specs.declared.decisions.Kind.TheVariants.{Voted, Source
 use Rattle.config_table.specs.declared.decisions.Decision.{Decision}
 use Rattle.config_table.specs.declared.decisions.Decision.TheVariants.{Idle, Discard, Exchange}
 use Rattle.config_table.specs.Table.{TableValue}
-use Rattle.flag_vote.specs.Flags.{Pattern, has_space}
+use Rattle.config_table.specs.Members.{is_left_out, has_three}
+use Rattle.local_pattern.specs.Columns.{Pattern, has_space}
 use Rattle.syndrome_log.specs.declared.Syndrome.{Syndrome}
 use Rattle.syndrome_log.specs.Log.{noted}
-use Rattle.run.specs.Noted.{says_full_at, is_off_value}
-use Rattle.run.specs.Syndromes.{is_left_out, has_three}
+use Rattle.element_notes.specs.Notes.{says_full_at, is_off_value}
 use Rattle.element_notes.specs.AtHand.{AreResults}
 use Rattle.element_notes.specs.declared.entries.Heading.{Heading}
 use Rattle.element_notes.specs.declared.entries.Accused.{Accused}
@@ -69,11 +69,11 @@ is_full table pattern Idle ne = false
 is_full table pattern (Discard vid desc number admitted waited) ne = false
 is_full table pattern (Exchange service) ne = says_full_at table pattern service ne
 
--- whether an admitted member stands there and its value differs from the result
-abbrev pub is_off : TableValue → Echoes → Decision → ℕ → Bool
-is_off table x Idle ne = false
-is_off table x (Discard vid desc number admitted waited) ne = false
-is_off table x (Exchange service) ne = is_off_value table service x ne
+-- whether an admitted member stands there and its value differs from the entry
+abbrev pub is_off : TableValue → Echoes → Decision → Cell → ℕ → Bool
+is_off table x Idle entry ne = false
+is_off table x (Discard vid desc number admitted waited) entry ne = false
+is_off table x (Exchange service) entry ne = is_off_value table service x entry ne
 
 -- ---- values
 

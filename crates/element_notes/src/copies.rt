@@ -5,11 +5,11 @@ ghost use Rattle.std.specs.Prelude.{◌≡◌, ◌≢◌, ℕ, Bool, ◌+◌, �
 ghost use Rattle.ftpp_base.specs.Sets.{has};
 ghost use Rattle.bit_vote.specs.Vote.{same_cell};
 ghost use Rattle.two_round.specs.Echoes.{word_of};
-ghost use Rattle.run.specs.Noted.{off_copies, off_by, off_relays};
+ghost use Rattle.element_notes.specs.Notes.{off_copies, off_by, off_relays};
 ghost use Rattle.element_notes.specs.Words.{is_off_word, IsWhole};
 
 use crate::entries::{Accused, Heading, Notes, note_each};
-use crate::sets::{element, put_if};
+use crate::sets::put_if;
 use bit_vote::{Cells, same_bytes};
 use ftpp_base::{Ne, Set8};
 use syndrome_log::SyndromeKind;
@@ -85,9 +85,9 @@ fn off_words<const N: usize, const B: usize>(
     requires of { of < N }
     ensures { (s : ℕ) → s < N → has result s ≡ is_off_word x.now counts.now of s }
 {
-    let mut off = Set8 { bits: 0 };
+    let mut off = Set8::EMPTY;
     for k in 0..N {
-        let sender = element(k as u8, N as u8);
+        let sender = Ne::at(k);
         let is_off = is_off_word(x, results, counts, me, of, sender);
         off = put_if(&off, is_off, k as u8);
     }
@@ -148,7 +148,7 @@ fn note_relays<const N: usize, const B: usize>(
     ensures few { length out.new.items ≤ length out.old.items + 16 }
 {
     for k in 0..N {
-        let relay = element(k as u8, N as u8);
+        let relay = Ne::at(k);
         if relay != me {
             note_relay(x, results, counts, me, relay, heading, out);
         }

@@ -3,7 +3,6 @@
 ghost use Rattle.std.specs.Prelude.{◌≡◌, ◌+◌, ◌<◌, ◌≤◌, [], ◌∷◌, ◌++◌, length, if◌then◌else◌};
 ghost use Rattle.element_notes.specs.Words.{entry_about, entries_about};
 
-use crate::sets::element;
 use ftpp_base::{Ne, Row, Set8};
 use syndrome_log::{Syndrome, SyndromeKind};
 
@@ -60,7 +59,7 @@ pub(crate) fn note_each(out: &mut Notes, heading: &Heading, accused: &Accused, n
     ensures few { length out.new.items ≤ length out.old.items + n }
 {
     for k in 0..n {
-        let entry = entry_about(heading, accused, element(k, n));
+        let entry = entry_about(heading, accused, Ne::at(k as usize));
         push_if(out, nes.has(k), entry);
     }
 }

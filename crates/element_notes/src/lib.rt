@@ -2,10 +2,10 @@
 #![tactic(auto)]
 
 ghost use Rattle.std.specs.Prelude.{◌≡◌, ◌<◌, ◌≤◌, true, length, option_copied};
-ghost use Rattle.run.specs.Element.{Kept, Made, own_entry};
-ghost use Rattle.run.specs.Noted.{noted_by};
-ghost use Rattle.run.specs.Sent.{is_relayed};
-ghost use Rattle.element_notes.specs.AtHand.{AreResults, HasParts};
+ghost use Rattle.config_table.specs.Kinds.{is_relayed};
+ghost use Rattle.element_notes.specs.AtHand.{AreResults};
+ghost use Rattle.element_notes.specs.Notes.{notes_of};
+ghost use Rattle.element_notes.specs.Words.{row_in};
 
 mod copies;
 mod entries;
@@ -21,7 +21,7 @@ use ftpp_base::{Ne, Row};
 use local_pattern::SystemPattern;
 use members::{note_absent, note_full};
 use packet_format::Packet;
-pub use relaying::{is_relayed, relayed};
+pub use relaying::relayed;
 use sets::all_elements;
 use syndrome_log::{Syndrome, SyndromeKind};
 use two_round::TwoRound;
@@ -68,10 +68,8 @@ pub fn note<const N: usize>(seen: &Seen<N>, out: &mut Row<Syndrome, 64>)
     requires packets { seen.now.packets.now.me ≡ seen.now.me }
     requires pattern_results { AreResults N seen.now.patterns.now (λ s. true) seen.now.pattern_results.now }
     requires packet_results { AreResults N seen.now.packets.now (is_relayed seen.now.decision.now) seen.now.packet_results.now }
-    requires entry { option_copied seen.now.entry ≡ own_entry seen.now.table.now seen.now.decision.now seen.now.packets.now }
-    ensures noted { (kept : Kept) (m : Made)
-        → HasParts seen.now.cycle seen.now.table.now seen.now.pattern.now seen.now.decision.now seen.now.patterns.now seen.now.packets.now kept m
-        → out.new.items ≡ noted_by kept m }
+    ensures noted { out.new.items ≡ notes_of seen.now.cycle seen.now.table.now seen.now.pattern.now seen.now.decision.now seen.now.patterns.now seen.now.packets.now
+        (row_in (option_copied seen.now.entry)) }
     ensures few { length out.new.items ≤ 52 }
 {
     let Seen {

@@ -3,11 +3,8 @@
 ghost use Rattle.std.specs.Prelude.{◌≡◌, ℕ, ◌+◌, ◌<◌, ◌≤◌, ◌&&◌, ◌++◌, not, length, filter, All};
 ghost use Rattle.ftpp_base.specs.Sets.{has};
 ghost use Rattle.config_table.specs.Bounds.{InRange};
-ghost use Rattle.flag_vote.specs.Words.{unmasked_from};
-ghost use Rattle.data_exchange.specs.Entries.{senders};
-ghost use Rattle.run.specs.Cycle.{is_delivered};
-ghost use Rattle.run.specs.Noted.{absent_ones, full_ones};
-ghost use Rattle.run.specs.Syndromes.{stands_at};
+ghost use Rattle.config_table.specs.Members.{is_delivered, senders, stands_at, unmasked_from};
+ghost use Rattle.element_notes.specs.Notes.{absent_ones, full_ones};
 ghost use Rattle.element_notes.specs.Words.{lacks, is_absent, is_full};
 
 use crate::entries::{Accused, Heading, Notes, note_each};
@@ -62,7 +59,7 @@ fn lacking_among<const N: usize>(
     requires among { All (InRange N) members.now }
     ensures { (ne : ℕ) → ne < 8 → has result ne ≡ stands_at (filter (lacks pattern.now lack.now) (unmasked_from masked.now 0 members.now)) ne }
 {
-    let mut set = Set8 { bits: 0 };
+    let mut set = Set8::EMPTY;
     for (i, proc) in members.iter().enumerate() {
         let belongs = is_lacking(pattern, lack, masked, i as u8, *proc);
         set = put_if(&set, belongs, proc.ne);
@@ -78,7 +75,7 @@ fn lacking<const N: usize>(table: &Table, pattern: &SystemPattern<N>, lack: &Lac
 {
     match table.group(vid) {
         Some(group) => lacking_among(pattern, lack, &group.masked, group.members.as_slice()),
-        None => Set8 { bits: 0 },
+        None => Set8::EMPTY,
     }
 }
 
@@ -89,7 +86,7 @@ fn absent<const N: usize>(table: &Table, pattern: &SystemPattern<N>, decision: &
     ensures { (ne : ℕ) → ne < 8 → has result ne ≡ is_absent table.now decision.now ne }
 {
     match decision {
-        Decision::Idle => Set8 { bits: 0 },
+        Decision::Idle => Set8::EMPTY,
         Decision::Discard { vid, admitted, .. } => {
             lacking(table, pattern, &Lack::Admission(*admitted), *vid)
         }
@@ -118,10 +115,10 @@ fn full<const N: usize>(table: &Table, pattern: &SystemPattern<N>, decision: &De
             if is_delivered(service.desc.class) {
                 lacking(table, pattern, &Lack::Space, service.desc.dest)
             } else {
-                Set8 { bits: 0 }
+                Set8::EMPTY
             }
         }
-        _ => Set8 { bits: 0 },
+        _ => Set8::EMPTY,
     }
 }
 

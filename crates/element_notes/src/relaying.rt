@@ -2,33 +2,10 @@
 
 ghost use Rattle.std.specs.Prelude.{◌≡◌, ℕ, ◌<◌, ◌==◌, ◌&&◌, not};
 ghost use Rattle.ftpp_base.specs.Sets.{has};
-ghost use Rattle.data_exchange.specs.Entries.{contributes, is_voted};
-ghost use Rattle.run.specs.Sent.{is_relayed};
+ghost use Rattle.config_table.specs.Kinds.{contributes, is_relayed, is_voted};
 
 use config_table::{Decision, Kind, Service};
-use data_exchange::contributes;
-use ftpp_base::{Ne, Set8};
-
-/// Whether one round alone carries the exchange.
-fn is_voted(kind: &Kind) -> bool
-    ensures { result ≡ is_voted kind.now }
-{
-    match kind {
-        Kind::Voted => true,
-        Kind::Source(_) => false,
-        Kind::Every => false,
-    }
-}
-
-/// Whether a copy of an element's packet is relayed: it contributes to an exchange of two rounds.
-pub fn is_relayed(decision: &Decision, ne: Ne) -> bool
-    ensures { result ≡ is_relayed decision.now ne }
-{
-    match decision {
-        Decision::Exchange(service) => !is_voted(&service.kind) && contributes(service, ne),
-        _ => false,
-    }
-}
+use ftpp_base::Set8;
 
 /// The set of one element, if it is in another.
 #[tactic(auto, using(crate::proofs::RelaySets::has_none, crate::proofs::RelaySets::has_one))]
@@ -36,7 +13,7 @@ fn one_of(set: &Set8, ne: u8) -> Set8
     requires { ne < 5 }
     ensures { (k : ℕ) → k < 5 → has result k ≡ has set.now k && ne == k }
 {
-    let none = Set8 { bits: 0 };
+    let none = Set8::EMPTY;
     if set.has(ne) { none.with(ne) } else { none }
 }
 
@@ -45,7 +22,7 @@ fn relayed_in(service: &Service) -> Set8
     ensures { (ne : ℕ) → ne < 5 → has result ne ≡ (not (is_voted service.now.kind) && contributes service.now ne) }
 {
     match &service.kind {
-        Kind::Voted => Set8 { bits: 0 },
+        Kind::Voted => Set8::EMPTY,
         Kind::Source(source) => one_of(&service.admitted, source.byte()),
         Kind::Every => service.admitted,
     }
@@ -57,6 +34,6 @@ pub fn relayed(decision: &Decision) -> Set8
 {
     match decision {
         Decision::Exchange(service) => relayed_in(service),
-        _ => Set8 { bits: 0 },
+        _ => Set8::EMPTY,
     }
 }

@@ -1,21 +1,9 @@
-//! Elements by number, and sets of them that are put together one by one.
+//! Sets of elements that are put together one by one.
 
 ghost use Rattle.std.specs.Prelude.{◌≡◌, ℕ, ◌<◌, ◌≤◌, ◌==◌, ◌&&◌, ◌||◌, true};
 ghost use Rattle.ftpp_base.specs.Sets.{has};
 
-use ftpp_base::{Ne, Set8};
-
-/// The element of a number among `n`.
-pub(crate) fn element(k: u8, n: u8) -> Ne
-    requires among { k < n }
-    requires few { n ≤ 5 }
-    ensures { result ≡ k }
-{
-    match Ne::new(k, n) {
-        Some(ne) => ne,
-        None => unreachable!(),
-    }
-}
+use ftpp_base::Set8;
 
 /// The set of all elements.
 #[tactic(auto, using(crate::proofs::SetsOfElements::has_all))]

@@ -1,16 +1,13 @@
 ghost use Rattle.std.specs.Prelude.{◌≡◌, ◌≢◌, ℕ, ◌<◌, ◌≤◌, ◌^◌, IfSome};
 ghost use Rattle.ftpp_base.specs.Lists.{cell_at};
 ghost use Rattle.two_round.specs.Echoes.{result_for};
-ghost use Rattle.run.specs.Element.{own_entry};
 
 use super::*;
 use bit_vote::Cells;
 use config_table::{Decision, Group, Kind, Service, Table};
-use data_exchange::entry;
-use ftpp_base::{Ne, Proc, Row, Set8};
+use ftpp_base::{Ne, Row, Set8};
 use local_pattern::{Entry, LocalPattern, SystemPattern};
 use packet_format::{Descriptor, Packet};
-use sets::element;
 use std::test::Fail;
 use syndrome_log::{Syndrome, SyndromeKind};
 use two_round::TwoRound;
@@ -46,24 +43,15 @@ struct Case {
     full: u8,
     decision: Decision,
     packets: [[u8; 4]; 4],
+    /// The first byte of what came of the exchange of packets.
+    entry: u8,
     notes: &'static [(SyndromeKind, u8, u8)],
 }
 
-fn group(vid: u8, masked: u8, members: &[(u8, u8)]) -> Group {
-    let mut row = Row::new();
-    for &(ne, port) in members {
-        let _ = row.try_push(Proc { ne, port });
-    }
-    Group {
-        vid,
-        members: row,
-        masked: Set8 { bits: masked },
-        ts: 3,
-        tr: 2,
-        tx: 0,
-        outs: 16,
-        ins: 32,
-    }
+/// The group with some members masked.
+fn with_masked(mut group: Group, bits: u8) -> Group {
+    group.masked = Set8 { bits };
+    group
 }
 
 /// A quad, two triplex and two simplex groups, and a triplex group whose last member is masked.
@@ -71,12 +59,12 @@ fn table() -> Option<Table>
     ensures { IfSome result (λ t. t.n ≡ 4) }
 {
     let groups = [
-        group(1, 0, &[(0, 0), (1, 0), (2, 0), (3, 0)]),
-        group(2, 0, &[(0, 1), (1, 1), (2, 1)]),
-        group(3, 0, &[(1, 2), (2, 2), (3, 2)]),
-        group(4, 0, &[(3, 1)]),
-        group(5, 0, &[(0, 3)]),
-        group(6, 4, &[(0, 4), (1, 4), (2, 4)]),
+        Group::usual(1, &[(0, 0), (1, 0), (2, 0), (3, 0)]),
+        Group::usual(2, &[(0, 1), (1, 1), (2, 1)]),
+        Group::usual(3, &[(1, 2), (2, 2), (3, 2)]),
+        Group::usual(4, &[(3, 1)]),
+        Group::usual(5, &[(0, 3)]),
+        with_masked(Group::usual(6, &[(0, 4), (1, 4), (2, 4)]), 4),
     ];
     let table = Table::new(4, 1, &groups).ok()?;
     if table.n() == 4 { Some(table) } else { None }
@@ -110,7 +98,7 @@ fn pattern(full: u8) -> SystemPattern<4> {
     for k in 0..4 {
         let is_full = (Set8 { bits: full }).has(k);
         if !is_full {
-            pattern.set_column(element(k, 4), room);
+            pattern.set_column(Ne::at(usize::from(k)), room);
         }
     }
     pattern
@@ -154,7 +142,7 @@ fn exchange<const B: usize>(me: Ne, rows: &[[u8; 4]; 4]) -> TwoRound<4, B>
     let mut x = TwoRound::new(me);
     x.first(row(held[me.index()]));
     for k in 0..4 {
-        let from = element(k as u8, 4);
+        let from = Ne::at(k);
         if from != me {
             hear(&mut x, from, held[k], &rows[k]);
         }
@@ -170,30 +158,6 @@ fn results<const B: usize>(x: &TwoRound<4, B>) -> Cells<4, B>
     x.results()
 }
 
-/// What came of the exchange of packets.
-fn entry_of(
-    table: &Table,
-    decision: &Decision,
-    x: &TwoRound<4, 64>,
-    results: &Cells<4, 64>,
-) -> Option<Option<Packet>>
-    requires elements { table.now.n ≡ 4 }
-    requires results { (s : ℕ) → s < 4 → cell_at results.now s ≡ result_for x.now s }
-    ensures { IfSome result (λ entry. entry ≡ own_entry table.now decision.now x.now) }
-{
-    match decision {
-        Decision::Exchange(service) => {
-            if let Kind::Source(source) = &service.kind {
-                if source.index() >= 4 {
-                    return None;
-                }
-            }
-            Some(entry(table, service, &x.echo(), results))
-        }
-        _ => Some(None),
-    }
-}
-
 /// What the element notes.
 fn notes(table: &Table, case: &Case) -> Option<Row<Syndrome, 64>>
     requires { table.now.n ≡ 4 }
@@ -203,8 +167,7 @@ fn notes(table: &Table, case: &Case) -> Option<Row<Syndrome, 64>>
     let packets = exchange::<64>(me, &case.packets);
     let packet_results = results(&packets);
     let decision = case.decision;
-    let entry = entry_of(table, &decision, &packets, &packet_results)?;
-    let entry = entry.as_ref();
+    let entry = row(case.entry).map(|bytes| Packet { bytes });
     let seen = Seen {
         me,
         cycle: 7,
@@ -215,7 +178,7 @@ fn notes(table: &Table, case: &Case) -> Option<Row<Syndrome, 64>>
         pattern_results: &results(&patterns),
         packets: &packets,
         packet_results: &packet_results,
-        entry,
+        entry: entry.as_ref(),
     };
     let mut out = Row::new();
     note(&seen, &mut out);
@@ -250,6 +213,7 @@ fn each_kind_is_noted_by_its_rule(rt: HostRuntime) -> Result<(), Fail> {
             full: 0,
             decision: voted(0b0111),
             packets: posts,
+            entry: 0x41,
             notes: &[],
         },
         Case {
@@ -259,6 +223,7 @@ fn each_kind_is_noted_by_its_rule(rt: HostRuntime) -> Result<(), Fail> {
             full: 0,
             decision: Decision::Idle,
             packets: NO_ROWS,
+            entry: NONE,
             notes: &[(SyndromeKind::P2, 3, 0)],
         },
         Case {
@@ -268,6 +233,7 @@ fn each_kind_is_noted_by_its_rule(rt: HostRuntime) -> Result<(), Fail> {
             full: 0,
             decision: Decision::Idle,
             packets: NO_ROWS,
+            entry: NONE,
             notes: &[(SyndromeKind::P1, 3, 3), (SyndromeKind::P2, 1, 3)],
         },
         Case {
@@ -277,6 +243,7 @@ fn each_kind_is_noted_by_its_rule(rt: HostRuntime) -> Result<(), Fail> {
             full: 0,
             decision: voted(0b0011),
             packets: [[0x41, 0x41, NONE, NONE], [NONE; 4], [NONE; 4], [NONE; 4]],
+            entry: 0x41,
             notes: &[(SyndromeKind::R, 2, 2)],
         },
         Case {
@@ -292,6 +259,7 @@ fn each_kind_is_noted_by_its_rule(rt: HostRuntime) -> Result<(), Fail> {
                 waited: 0,
             },
             packets: NO_ROWS,
+            entry: NONE,
             notes: &[(SyndromeKind::R, 0, 0)],
         },
         Case {
@@ -301,6 +269,7 @@ fn each_kind_is_noted_by_its_rule(rt: HostRuntime) -> Result<(), Fail> {
             full: 0b1000,
             decision: voted(0b0111),
             packets: posts,
+            entry: 0x41,
             notes: &[(SyndromeKind::O, 3, 3)],
         },
         Case {
@@ -315,6 +284,7 @@ fn each_kind_is_noted_by_its_rule(rt: HostRuntime) -> Result<(), Fail> {
                 [NONE, NONE, NONE, 0x55],
                 [NONE, NONE, NONE, 0x0f],
             ],
+            entry: 0x17,
             notes: &[
                 (SyndromeKind::D1, 3, 3),
                 (SyndromeKind::D2, 1, 3),
@@ -328,6 +298,7 @@ fn each_kind_is_noted_by_its_rule(rt: HostRuntime) -> Result<(), Fail> {
             full: 0,
             decision: served(3, request(2, 1), Kind::Voted, 0b1110),
             packets: [[NONE, 0xff, 0, 0xff], [NONE; 4], [NONE; 4], [NONE; 4]],
+            entry: 0xff,
             notes: &[(SyndromeKind::V, 2, 2)],
         },
         Case {
@@ -337,6 +308,7 @@ fn each_kind_is_noted_by_its_rule(rt: HostRuntime) -> Result<(), Fail> {
             full: 0b1111,
             decision: served(1, request(0, 3), Kind::Every, 0b1111),
             packets: [[0, 0, 1, 1], [0, 0, 1, 0], [0, 0, 1, 0], [0, 0, 1, 1]],
+            entry: 0,
             notes: &[(SyndromeKind::D2, 0, 3), (SyndromeKind::V, 2, 2)],
         },
         Case {
@@ -346,6 +318,7 @@ fn each_kind_is_noted_by_its_rule(rt: HostRuntime) -> Result<(), Fail> {
             full: 0,
             decision: served(6, request(3, 1), Kind::Every, 0b0011),
             packets: [[0x55, 0x54, NONE, NONE]; 4],
+            entry: 0x54,
             notes: &[],
         },
     ];

@@ -3,16 +3,15 @@
 ghost use Rattle.std.specs.Prelude.{◌≡◌, ℕ, ◌+◌, ◌<◌, ◌≤◌, ◌++◌, length};
 ghost use Rattle.std.specs.Option.{option_copied};
 ghost use Rattle.ftpp_base.specs.Sets.{has};
-ghost use Rattle.run.specs.Element.{own_entry};
-ghost use Rattle.run.specs.Noted.{off_values};
-ghost use Rattle.run.specs.Sent.{is_relayed};
-ghost use Rattle.run.specs.Syndromes.{has_three};
+ghost use Rattle.config_table.specs.Kinds.{is_relayed};
+ghost use Rattle.config_table.specs.Members.{has_three};
+ghost use Rattle.element_notes.specs.Notes.{off_values};
 ghost use Rattle.element_notes.specs.AtHand.{AreResults};
 ghost use Rattle.element_notes.specs.Words.{compared_in, value_differs, is_off_member, row_in, is_off};
 
 use crate::copies::differ;
 use crate::entries::{Accused, Heading, Notes, note_each};
-use crate::sets::{element, put_if};
+use crate::sets::put_if;
 use bit_vote::Cells;
 use config_table::{Decision, Kind, Service, Table};
 use ftpp_base::{Ne, Set8};
@@ -110,9 +109,9 @@ fn off_members<const N: usize>(
     requires { N ≤ 5 }
     ensures { (ne : ℕ) → ne < N → has result ne ≡ is_off_member x.now results.now compared.now entry.now admitted.now ne }
 {
-    let mut off = Set8 { bits: 0 };
+    let mut off = Set8::EMPTY;
     for k in 0..N {
-        let ne = element(k as u8, N as u8);
+        let ne = Ne::at(k);
         let is_off = is_off_member(x, results, compared, entry, admitted, ne);
         off = put_if(&off, is_off, k as u8);
     }
@@ -129,8 +128,7 @@ fn off<const N: usize>(
 ) -> Set8
     requires few { N ≤ 5 }
     requires results { AreResults N x.now (is_relayed decision.now) results.now }
-    requires entry { option_copied entry ≡ own_entry table.now decision.now x.now }
-    ensures { (ne : ℕ) → ne < N → has result ne ≡ is_off table.now x.now decision.now ne }
+    ensures { (ne : ℕ) → ne < N → has result ne ≡ is_off table.now x.now decision.now (row_in (option_copied entry.entry)) ne }
 {
     match decision {
         Decision::Exchange(service) => {
@@ -138,7 +136,7 @@ fn off<const N: usize>(
             let row = row_in(entry);
             off_members(x, results, &compared, &row, &service.admitted)
         }
-        _ => Set8 { bits: 0 },
+        _ => Set8::EMPTY,
     }
 }
 
@@ -155,9 +153,8 @@ pub(crate) fn note_values<const N: usize>(
     requires few { N ≤ 5 }
     requires elements { table.now.n ≡ N }
     requires results { AreResults N x.now (is_relayed decision.now) results.now }
-    requires entry { option_copied entry ≡ own_entry table.now decision.now x.now }
     requires room { length out.old.items ≤ 59 }
-    ensures items { out.new.items ≡ out.old.items ++ off_values cycle table.now x.now decision.now }
+    ensures items { out.new.items ≡ out.old.items ++ off_values cycle table.now x.now decision.now (row_in (option_copied entry.entry)) }
     ensures few { length out.new.items ≤ length out.old.items + 5 }
 {
     let kind = SyndromeKind::V;

@@ -7,9 +7,10 @@ use Rattle.config_table.specs.declared.decisions.Decision.TheVariants.{Idle, Dis
 use Rattle.config_table.specs.declared.decisions.Service.{Service}
 use Rattle.config_table.specs.Table.{TableValue, in_limit}
 use Rattle.processor_buffers.specs.Queues.{Queues}
-use Rattle.data_exchange.specs.Entries.{member_at}
-use Rattle.run.specs.Cycle.{receivers, after_entry}
-use Rattle.run.specs.Element.{Kept, delivered_to, own_delivery}
+use Rattle.config_table.specs.Members.{member_at}
+use Rattle.config_table.specs.Members.{receivers}
+use Rattle.element_ports.specs.PortQueues.{after_entry}
+use Rattle.element_ports.specs.PortQueues.{delivered_to, delivered_ports}
 use Rattle.element_ports.specs.Ports.{PortsValue}
 use Rattle.element_ports.proofs.PortChanges.{change_at-none}
 
@@ -20,8 +21,9 @@ none_to table cycle service ports None = refl
 none_to table cycle service ports (Some proc) = change_at-none (after_entry (in_limit table proc) cycle service None) ports proc.port (λ q. refl)
 
 -- whatever was decided
-pub none-delivered : (kept : Kept) (decision : Decision) (ports : PortsValue) → ports ≡ record ports { queues = own_delivery kept decision None ports.queues }
-none-delivered kept Idle ports = refl
-none-delivered kept (Discard vid desc number admitted waited) ports = refl
-none-delivered kept (Exchange service) ports =
-    ap (λ qs. record ports { queues = qs }) (sym (none_to kept.table kept.cycle service ports.queues (member_at (receivers kept.table service) kept.me)))
+pub none-delivered : (table : TableValue) (me cycle : ℕ) (decision : Decision) (ports : PortsValue)
+    → ports ≡ record ports { queues = delivered_ports table me cycle decision None ports.queues }
+none-delivered table me cycle Idle ports = refl
+none-delivered table me cycle (Discard vid desc number admitted waited) ports = refl
+none-delivered table me cycle (Exchange service) ports =
+    ap (λ qs. record ports { queues = qs }) (sym (none_to table cycle service ports.queues (member_at (receivers table service) me)))

@@ -11,7 +11,7 @@ use Rattle.config_table.specs.Groups.{same_proc}
 use Rattle.config_table.specs.Table.{TableValue, out_limit, in_limit}
 use Rattle.processor_buffers.specs.Queues.{Queues, no_queues}
 use Rattle.processor_buffers.specs.Buffers.{Buffers}
-use Rattle.run.specs.Element.{own_cleared}
+use Rattle.element_ports.specs.PortQueues.{own_cleared}
 use Rattle.element_ports.specs.Ports.{PortsValue, HasLimits, HasLimitsAt, CanGoOver, fresh, proc_at, seen}
 use Rattle.element_ports.proofs.PortChanges.{no_buffers}
 

@@ -2,5 +2,3 @@ pub mod Deliveries
 pub mod GoesOver
 pub mod LiveMember
 pub mod PortChanges
-pub mod UpdateLimits
-pub mod UpdatePorts

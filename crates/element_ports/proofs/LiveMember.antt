@@ -7,8 +7,8 @@ use Rattle.std.proofs.lemmas.List.{drop_more}
 use Rattle.ftpp_base.specs.declared.element.Proc.{Proc}
 use Rattle.ftpp_base.specs.declared.sets.Set8.{Set8}
 use Rattle.ftpp_base.specs.Sets.{has}
-use Rattle.data_exchange.specs.Entries.{member_at}
-use Rattle.run.specs.Cycle.{is_admitted}
+use Rattle.config_table.specs.Members.{member_at}
+use Rattle.config_table.specs.Members.{is_admitted}
 
 -- the live ones of the members from one on, counted from its index
 abbrev pub live_from : Set8 → ℕ → List Proc → List Proc

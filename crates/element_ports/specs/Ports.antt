@@ -1,16 +1,11 @@
 -- The eight ports of one element: their queues, and how many packets each output and input holds.
 use Rattle.std.specs.Prelude.{◌≡◌, ℕ, ◌<◌, true, ◌⊎◌, List, All, map, slice_index}
 use Rattle.std.specs.List.{list_any}
-use Rattle.arrayvec.specs.ArrayVec.{ArrayVec}
 use Rattle.ftpp_base.specs.declared.element.Proc.{Proc}
 use Rattle.config_table.specs.Groups.{same_proc}
-use Rattle.config_table.specs.Table.{TableValue, IsValid, out_limit, in_limit}
+use Rattle.config_table.specs.Table.{TableValue, out_limit, in_limit}
 use Rattle.processor_buffers.specs.Queues.{Queues, no_queues}
 use Rattle.processor_buffers.specs.Buffers.{Buffers}
-use Rattle.table_update.specs.declared.Update.{Update}
-use Rattle.table_update.specs.declared.Applied.TheVariants.{Done}
-use Rattle.table_update.specs.Updates.{applied, table_after}
-use Rattle.run.specs.Element.{Kept}
 
 -- The element, and by port the queues, the limits of the outputs and those of the inputs.
 pub record PortsValue : Type 0 where
@@ -45,19 +40,7 @@ pub record HasLimitsAt (table : TableValue) (ports : PortsValue) (port : ℕ) : 
 abbrev pub HasLimits : TableValue → PortsValue → Type 0
 HasLimits table ports = (port : ℕ) → port < 8 → HasLimitsAt table ports port
 
--- What an element keeps are this table and these ports.
-pub record IsKeptWith (table : TableValue) (ports : PortsValue) (kept : Kept) : Type 0 where
-  pub of_me : kept.me ≡ ports.me
-  pub of_table : kept.table ≡ table
-  pub of_ports : kept.ports ≡ ports.queues
-
 -- The ports can go over to a table where those of some processors are emptied: these are there, and all others have its limits.
 pub record CanGoOver (table : TableValue) (cleared : List Proc) (ports : PortsValue) : Type 0 where
   pub there : All (λ proc. proc.port < 8) cleared
   pub others : (port : ℕ) → port < 8 → (list_any (same_proc (proc_at ports.me port)) cleared ≡ true) ⊎ HasLimitsAt table ports port
-
--- So they can after each update that is applied to a valid table.
-abbrev pub EachUpdateFits : Type 0
-EachUpdateFits = (table : TableValue) (update : Update) (procs : ArrayVec Proc) (ports : PortsValue)
-    → IsValid table → HasLimits table ports → applied table update ≡ Done procs
-    → CanGoOver (table_after table update) procs.items ports

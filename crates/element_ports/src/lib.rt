@@ -1,8 +1,6 @@
 //! The eight ports of one element.
 #![tactic(auto)]
 
-pub mod laws;
-mod limits;
 mod members;
 mod ports;
 mod serving;

@@ -1,8 +1,7 @@
 //! The live member of a group that stands at one element.
 
 ghost use Rattle.std.specs.Prelude.{◌≡◌, ◌<◌, ◌≤◌, length, All, IfSome};
-ghost use Rattle.data_exchange.specs.Entries.{live_in, member_at, senders};
-ghost use Rattle.run.specs.Cycle.{admitted_members, receivers};
+ghost use Rattle.config_table.specs.Members.{admitted_members, live_in, member_at, receivers, senders};
 
 use config_table::{Service, Table};
 use ftpp_base::{Ne, Proc, Set8};

@@ -1,23 +1,18 @@
 //! The ports with their memory, and what processors do at them.
 
 ghost use Rattle.std.specs.Prelude.{◌≡◌, ◌<◌, length, is_ok, IfOk};
-ghost use Rattle.packet_format.specs.declared.Act.TheVariants.{Post, Read};
+ghost use Rattle.packet_format.specs.declared.acts.Act.TheVariants.{Post, Read};
 ghost use Rattle.config_table.specs.Table.{TableValue, out_limit};
 ghost use Rattle.processor_buffers.specs.Queues.{first, has_out_room};
-ghost use Rattle.run.specs.Processors.{empty_ports, port_queues};
-ghost use Rattle.run.specs.AloneRun.{own_act};
+ghost use Rattle.element_ports.specs.PortQueues.{empty_ports, own_act, port_queues};
 ghost use Rattle.element_ports.specs.Ports.{HasLimits, fresh, proc_at};
 
-use crate::limits::limits_of;
 use config_table::Table;
-use ftpp_base::{Ne, NoMemory, Proc};
+use ftpp_base::{Ne, NoMemory, PORTS, Proc};
 use packet_format::{Delivered, Descriptor, Packet};
 use processor_buffers::{PortBuffers, PostFull};
 use std::alloc::Global;
 use std::marker::Model;
-
-/// How many ports an element has.
-pub(crate) const PORTS: u8 = 8;
 
 /// The eight ports of one element, with the limits of its table. Clauses see the element, and by port the queues and the limits.
 #[derive(Drop)]
@@ -52,7 +47,7 @@ fn eight_buffers(alloc: Global) -> Result<Vec<PortBuffers>, NoMemory>
 pub(crate) fn renew(buffers: &mut PortBuffers, table: &Table, proc: Proc)
     ensures { buffers.new ≡ fresh table.now proc }
 {
-    let (outs, ins) = limits_of(table, proc);
+    let (outs, ins) = table.limits(proc);
     buffers.clear();
     buffers.set_limits(outs, ins);
 }

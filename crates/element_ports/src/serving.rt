@@ -2,16 +2,14 @@
 
 ghost use Rattle.std.specs.Prelude.{◌≡◌, ◌<◌, option_copied};
 ghost use Rattle.processor_buffers.specs.Queues.{after_pop, head_of};
-ghost use Rattle.data_exchange.specs.Entries.{member_at, own_row, packet_of_head};
-ghost use Rattle.run.specs.Processors.{port_queues};
-ghost use Rattle.run.specs.Cycle.{admitted_members, delivered_by, receivers};
-ghost use Rattle.run.specs.Element.{Kept, delivered_to, handed_by_own, own_delivery, own_handed, own_packet, own_service, with_port};
-ghost use Rattle.element_ports.specs.Ports.{HasLimits, IsKeptWith};
+ghost use Rattle.processor_buffers.specs.Heads.{packet_of_head};
+ghost use Rattle.config_table.specs.Members.{admitted_members, member_at, receivers};
+ghost use Rattle.element_ports.specs.PortQueues.{delivered_by, delivered_ports, delivered_to, handed_by_own, handed_here, member_row, port_queues, served_ports, with_port};
+ghost use Rattle.element_ports.specs.Ports.{HasLimits};
 
 use crate::Ports;
 use crate::members::{admitted_at, receiver_at, sender_at};
 use config_table::{Decision, Service, Table};
-use data_exchange::contributes;
 use ftpp_base::{Proc, Set8};
 use packet_format::{Delivered, Descriptor, Packet};
 use processor_buffers::Handed;
@@ -30,26 +28,13 @@ fn delivered_by(cycle: u32, service: &Service, packet: &Packet) -> Delivered
 }
 
 impl Ports {
-    /// The row that the element sends in an exchange: the head of its member, where that contributes and its head carries
-    /// the request.
-    pub fn row(&self, table: &Table, decision: &Decision) -> Option<[u8; 64]>
-        ensures { (kept : Kept) → IsKeptWith table.now self.now kept → result ≡ own_packet kept decision.now }
+    /// The 64 bytes of the packet that a group's live member here would send next, if its head carries the request. `None`
+    /// too where no live member of the group stands here.
+    pub fn member_row(&self, table: &Table, vid: u8, request: &Descriptor) -> Option<[u8; 64]>
+        ensures { result ≡ member_row table.now self.now.me vid request.now self.now.queues }
     {
-        match decision {
-            Decision::Idle | Decision::Discard { .. } => None,
-            Decision::Exchange(service) => self.own_row(table, service),
-        }
-    }
-
-    /// The row that the element contributes to an exchange.
-    fn own_row(&self, table: &Table, service: &Service) -> Option<[u8; 64]>
-        ensures { result ≡ own_row table.now (λ proc. head_of (port_queues self.now.queues proc.port)) service.now self.now.me }
-    {
-        if !contributes(service, self.me) {
-            return None;
-        }
-        match sender_at(table, service.vid, self.me) {
-            Some(proc) => self.requested(proc.port, &service.desc),
+        match sender_at(table, vid, self.me) {
+            Some(proc) => self.requested(proc.port, request),
             None => None,
         }
     }
@@ -67,7 +52,7 @@ impl Ports {
 
     /// Takes the head of the member here that was admitted to an exchange or a discard, if that carries the request.
     pub fn serve(&mut self, table: &Table, decision: &Decision)
-        ensures { (kept : Kept) → IsKeptWith table.now self.old kept → self.new ≡ record self.old { queues = own_service kept decision.now } }
+        ensures { self.new ≡ record self.old { queues = served_ports table.now self.old.me decision.now self.old.queues } }
     {
         match decision {
             Decision::Idle => {}
@@ -106,10 +91,8 @@ impl Ports {
         entry: Option<&Packet>,
     ) -> Option<(Proc, Handed)>
         requires { HasLimits table.now self.old }
-        ensures ports { (kept : Kept) → kept.me ≡ self.old.me → kept.table ≡ table.now → kept.cycle ≡ cycle
-            → self.new ≡ record self.old { queues = own_delivery kept decision.now (option_copied entry.entry) self.old.queues } }
-        ensures handed { (kept : Kept) → kept.me ≡ self.old.me → kept.table ≡ table.now
-            → result ≡ own_handed kept decision.now (option_copied entry.entry) self.old.queues }
+        ensures ports { self.new ≡ record self.old { queues = delivered_ports table.now self.old.me cycle decision.now (option_copied entry.entry) self.old.queues } }
+        ensures handed { result ≡ handed_here table.now self.old.me decision.now (option_copied entry.entry) self.old.queues }
         ensures me { self.new.me ≡ self.old.me }
         ensures limits { HasLimits table.now self.new }
     {

@@ -2,11 +2,11 @@
 
 ghost use Rattle.std.specs.Prelude.{◌≡◌, ◌<◌};
 ghost use Rattle.config_table.specs.Table.{TableValue};
-ghost use Rattle.run.specs.Processors.{column_of, shown_entry};
+ghost use Rattle.element_ports.specs.PortQueues.{column_of, shown_entry};
 ghost use Rattle.element_ports.specs.Ports.{HasLimits};
 
 use crate::Ports;
-use crate::ports::PORTS;
+use ftpp_base::PORTS;
 use local_pattern::{Entry, LocalPattern};
 use packet_format::Descriptor;
 use processor_buffers::PortBuffers;

@@ -2,12 +2,11 @@ ghost use Rattle.element_ports.specs.Ports.{HasLimits};
 
 use super::*;
 use config_table::{ConfigError, Decision, Group, Kind, Service, Table};
-use ftpp_base::{Ne, Proc, Row, Set8};
+use ftpp_base::{Ne, Proc, Set8};
 use local_pattern::Entry;
 use packet_format::{Delivered, Descriptor, Packet};
 use processor_buffers::{Handed, PostFull};
 use std::test::*;
-use table_update::{Applied, Update, apply};
 
 const NOTHING: Descriptor = Descriptor {
     dest: 0,
@@ -22,22 +21,12 @@ const TO_THREE: Descriptor = Descriptor {
     source: 0,
 };
 
-/// A group whose outputs hold one packet and whose inputs hold two.
-fn group(vid: u8, masked: u8, members: &[(u8, u8)]) -> Group {
-    let mut row = Row::new();
-    for &(ne, port) in members {
-        let _ = row.try_push(Proc { ne, port });
-    }
-    Group {
-        vid,
-        members: row,
-        masked: Set8 { bits: masked },
-        ts: 3,
-        tr: 2,
-        tx: 0,
-        outs: 1,
-        ins: 2,
-    }
+/// The group with some members masked, whose outputs hold one packet and whose inputs hold two.
+fn small(mut group: Group, masked: u8) -> Group {
+    group.masked = Set8 { bits: masked };
+    group.outs = 1;
+    group.ins = 2;
+    group
 }
 
 /// Four elements; the last member of group 3 is masked.
@@ -46,9 +35,9 @@ fn four_elements() -> Result<Table, ConfigError> {
         4,
         1,
         &[
-            group(1, 0, &[(0, 0), (1, 0), (2, 0), (3, 0)]),
-            group(2, 0, &[(0, 1), (1, 1), (2, 1)]),
-            group(3, 4, &[(1, 2), (2, 2), (3, 2)]),
+            small(Group::usual(1, &[(0, 0), (1, 0), (2, 0), (3, 0)]), 0),
+            small(Group::usual(2, &[(0, 1), (1, 1), (2, 1)]), 0),
+            small(Group::usual(3, &[(1, 2), (2, 2), (3, 2)]), 4),
         ],
     )
 }
@@ -130,29 +119,34 @@ fn serve(ports: &mut Ports, table: &Table, decision: &Decision)
 #[test]
 fn exchanges_go_by_the_members(rt: HostRuntime) -> Result<(), Fail> {
     let table = four_elements()?;
-    let other = exchange(Descriptor {
+    let other_request = Descriptor {
         class: 2,
         ..TO_THREE
-    });
+    };
+    let other = exchange(other_request);
     let decision = exchange(TO_THREE);
     // admitted members send and lose their head; live members of group 3 receive
-    for (number, is_admitted, receives) in [
-        (0, true, false),
-        (1, true, true),
-        (2, false, true),
-        (3, false, false),
+    for (number, is_member, is_admitted, receives) in [
+        (0, true, true, false),
+        (1, true, true, true),
+        (2, true, false, true),
+        (3, false, false, false),
     ] {
         let me = Ne::new(number, 4).ok_or("element")?;
         let mut ports = Ports::new(rt.alloc(), me, &table)?;
         assert_eq!(rt; ports.post(1, TO_THREE, packet(65)), Ok(()));
         assert_eq!(rt;
-            ports.row(&table, &other),
+            ports.member_row(&table, 2, &other_request),
             None,
             "another request at {number}"
         );
         serve(&mut ports, &table, &other);
-        let row = is_admitted.then_some(packet(65).bytes);
-        assert_eq!(rt; ports.row(&table, &decision), row, "row at {number}");
+        let row = is_member.then_some(packet(65).bytes);
+        assert_eq!(rt;
+            ports.member_row(&table, 2, &TO_THREE),
+            row,
+            "row at {number}"
+        );
         serve(&mut ports, &table, &decision);
         let left = (!is_admitted).then_some(TO_THREE);
         assert_eq!(rt; ports.column().entry(1), shown(left), "head at {number}");
@@ -178,58 +172,6 @@ fn exchanges_go_by_the_members(rt: HostRuntime) -> Result<(), Fail> {
         assert_eq!(rt; ports.read(2), receives.then_some(delivered(7, 7)));
         assert_eq!(rt; ports.read(2), receives.then_some(delivered(9, 9)));
         assert_eq!(rt; ports.read(2), None);
-    }
-    Ok(())
-}
-
-/// Applies an update, and lets the ports follow it. Whether it was applied.
-fn follow(table: &mut Table, ports: &mut Ports, update: &Update) -> bool
-    requires { HasLimits table.old ports.old }
-{
-    let _valid = table.n();
-    match apply(table, update) {
-        Applied::Done(cleared) => {
-            ports.update(table, cleared.as_slice());
-            true
-        }
-        Applied::Refused(_) | Applied::Absent => false,
-    }
-}
-
-#[test]
-fn updates_clear_ports(rt: HostRuntime) -> Result<(), Fail> {
-    let me = Ne::new(1, 4).ok_or("1")?;
-    let held = Some(TO_THREE);
-    // what 1.1 and 1.2 show after each update, where both held a request
-    for (update, is_done, first, second) in [
-        (Update::Dissolve { vid: 2 }, true, None, held),
-        (Update::Admit { vid: 3, member: 0 }, true, held, None),
-        (Update::Admit { vid: 3, member: 1 }, true, held, held),
-        (Update::Mask { vid: 2, member: 1 }, true, held, held),
-        (Update::Dissolve { vid: 9 }, false, held, held),
-    ] {
-        let mut table = four_elements()?;
-        let mut ports = Ports::new(rt.alloc(), me, &table)?;
-        assert_eq!(rt; ports.post(1, TO_THREE, packet(1)), Ok(()));
-        assert_eq!(rt; ports.post(2, TO_THREE, packet(2)), Ok(()));
-        assert_eq!(rt;
-            follow(&mut table, &mut ports, &update),
-            is_done,
-            "{update:?}"
-        );
-        assert_eq!(rt;
-            ports.column().entry(1),
-            shown(first),
-            "1.1 after {update:?}"
-        );
-        assert_eq!(rt;
-            ports.column().entry(2),
-            shown(second),
-            "1.2 after {update:?}"
-        );
-        // a processor in no group has room for 16 packets
-        assert_eq!(rt; ports.post(1, TO_THREE, packet(3)).is_ok(), first.is_none());
-        assert_eq!(rt; ports.post(1, TO_THREE, packet(4)).is_ok(), first.is_none());
     }
     Ok(())
 }

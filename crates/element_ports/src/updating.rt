@@ -1,7 +1,7 @@
 //! The ports go over to the table that an update gave.
 
 ghost use Rattle.std.specs.Prelude.{◌≡◌};
-ghost use Rattle.run.specs.Element.{own_cleared};
+ghost use Rattle.element_ports.specs.PortQueues.{own_cleared};
 ghost use Rattle.element_ports.specs.Ports.{CanGoOver, HasLimits};
 
 use crate::Ports;

@@ -1,6 +1,6 @@
 -- A cycle keeps the numbers of the groups.
 use Rattle.std.proofs.Common.{◌≡◌, ℕ, Bool, true, false, cond, List, [], ◌∷◌, refl, ap, ◌∙◌, Option, Some, None}
-use Rattle.packet_format.specs.declared.Act.{Act}
+use Rattle.packet_format.specs.declared.acts.Act.{Act}
 use Rattle.processor_buffers.specs.Queues.{Queues}
 use Rattle.plain_cluster.specs.declared.requests.Line.{Line}
 use Rattle.plain_cluster.specs.declared.requests.Request.{Request}

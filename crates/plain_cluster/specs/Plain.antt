@@ -5,8 +5,8 @@ use Rattle.ftpp_base.specs.Lists.{is_in}
 use Rattle.ftpp_base.specs.Sets.{set_of}
 use Rattle.ftpp_base.specs.declared.element.Proc.{Proc}
 use Rattle.packet_format.specs.declared.Delivered.{Delivered}
-use Rattle.packet_format.specs.declared.Act.{Act}
-use Rattle.packet_format.specs.declared.Act.TheVariants.{Post, Read}
+use Rattle.packet_format.specs.declared.acts.Act.{Act}
+use Rattle.packet_format.specs.declared.acts.Act.TheVariants.{Post, Read}
 use Rattle.bit_vote.specs.Vote.{Cell}
 use Rattle.config_table.specs.declared.groups.Group.{Group}
 use Rattle.config_table.specs.declared.decisions.Kind.{Kind}

@@ -4,8 +4,8 @@ use Rattle.std.specs.List.{fold}
 use Rattle.ftpp_base.specs.declared.element.Proc.{Proc}
 use Rattle.packet_format.specs.declared.Descriptor.{Descriptor}
 use Rattle.packet_format.specs.declared.Delivered.{Delivered}
-use Rattle.packet_format.specs.declared.Act.{Act}
-use Rattle.packet_format.specs.declared.Act.TheVariants.{Post, Read}
+use Rattle.packet_format.specs.declared.acts.Act.{Act}
+use Rattle.packet_format.specs.declared.acts.Act.TheVariants.{Post, Read}
 use Rattle.bit_vote.specs.Vote.{Cell, vote}
 use Rattle.processor_buffers.specs.declared.Handed.{Handed}
 use Rattle.processor_buffers.specs.Queues.{Queues, Posted, no_queues, head_of, carries, has_in_room, after_post, after_pop, after_delivery, handed_by}

@@ -7,7 +7,7 @@ use crate::{Due, Element, Rejoined};
 use bit_vote::Cells;
 use config_table::{Group, Table};
 use frame_format::{FrameBuf, copy_frame};
-use ftpp_base::{Ne, Proc, Round, Row, Set8};
+use ftpp_base::{Ne, Round, Set8};
 use link_fabric::LinkEnd;
 use packet_format::{Delivered, Descriptor, Packet};
 use processor_buffers::PostFull;
@@ -20,33 +20,16 @@ pub(super) struct Seat {
     pub(super) link: LinkEnd<4>,
 }
 
-fn group(vid: u8, members: &[(u8, u8)]) -> Group {
-    let mut row = Row::new();
-    for &(ne, port) in members {
-        let _ = row.try_push(Proc { ne, port });
-    }
-    Group {
-        vid,
-        members: row,
-        masked: Set8 { bits: 0 },
-        ts: 3,
-        tr: 2,
-        tx: 0,
-        outs: 16,
-        ins: 32,
-    }
-}
-
 /// A quad group that may update the table, two triplex and two simplex groups.
 fn table() -> Option<Table>
     ensures { IfSome result (λ t. t.n ≡ 4) }
 {
     let groups = [
-        group(1, &[(0, 0), (1, 0), (2, 0), (3, 0)]),
-        group(2, &[(0, 1), (1, 1), (2, 1)]),
-        group(3, &[(1, 2), (2, 2), (3, 2)]),
-        group(4, &[(3, 1)]),
-        group(5, &[(0, 3)]),
+        Group::usual(1, &[(0, 0), (1, 0), (2, 0), (3, 0)]),
+        Group::usual(2, &[(0, 1), (1, 1), (2, 1)]),
+        Group::usual(3, &[(1, 2), (2, 2), (3, 2)]),
+        Group::usual(4, &[(3, 1)]),
+        Group::usual(5, &[(0, 3)]),
     ];
     let table = Table::new(4, 1, &groups).ok()?;
     if table.n() == 4 { Some(table) } else { None }

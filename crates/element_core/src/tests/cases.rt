@@ -1,8 +1,8 @@
 //! Runs of four elements with all kinds of faults.
 
+use crate::Outcome3;
 use ftpp_base::Round;
 use packet_format::Descriptor;
-use run::Outcome3;
 use syndrome_log::SyndromeKind;
 
 /// The rounds of a cycle.

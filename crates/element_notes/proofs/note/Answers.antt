@@ -1,8 +1,10 @@
 use Rattle.std.proofs.Common.{◌≡◌, ◌<◌, ◌∙◌, ◌++◌, ℕ, true, length, arith, refl, ap, sym}
 use Rattle.syndrome_log.specs.declared.SyndromeKind.TheVariants as kind
-use Rattle.run.specs.Noted.{off_copies, off_relays, absent_ones, full_ones, off_values}
-use Rattle.run.specs.Sent.{is_relayed}
-use Rattle.element_notes.proofs.AllNotes.{five_members, added, in_order, noted_parts}
+use Rattle.element_notes.specs.Notes.{off_copies, off_relays, absent_ones, full_ones, off_values, notes_of}
+use Rattle.config_table.specs.Kinds.{is_relayed}
+use Rattle.element_notes.proofs.AllNotes.{five_members, added, in_order}
+use Rattle.element_notes.specs.Words.{row_in}
+use Rattle.std.specs.Prelude.{option_copied}
 use Rattle.element_notes.proofs.note.Goals as goal
 
 pub note_exchange-requires : goal.note_exchange-requires
@@ -42,7 +44,8 @@ note_exchange-requires-2 g c =
     )
 
 pub returns-clause-noted : goal.returns-clause-noted
-returns-clause-noted g c kept m parts =
+unfolding notes_of
+returns-clause-noted g c =
     let seen = c.args.seen.now in
     let decision = seen.decision.now in
     let low : (s : ℕ) → s < g.row.N → s < 5 = λ s l. (let few = c.requires.few in omega arith) in
@@ -60,8 +63,7 @@ returns-clause-noted g c kept m parts =
     ++ full_ones seen.cycle seen.table.now seen.pattern.now decision
     ++ off_copies seen.cycle kind.D1 seen.packets.now n (is_relayed decision)
     ++ off_relays seen.cycle kind.D2 seen.packets.now n (is_relayed decision)
-    ++ off_values seen.cycle seen.table.now seen.packets.now decision)
-    ∙ noted_parts seen.cycle seen.table.now seen.pattern.now decision seen.patterns.now seen.packets.now kept m parts
+    ++ off_values seen.cycle seen.table.now seen.packets.now decision (row_in (option_copied seen.entry)))
 
 pub returns-clause-few : goal.returns-clause-few
 returns-clause-few g c =
@@ -69,9 +71,10 @@ returns-clause-few g c =
     let table = seen.table.now in
     let decision = seen.decision.now in
     let none : length c.clear.new.self.items ≡ 0 = ap length c.clear.ensures in
+    let entry = row_in (option_copied seen.entry) in
     let elements = c.requires.elements in
     let few = c.requires.few in
-    let apart = five_members seen.cycle table seen.packets.now decision (omega arith) in
+    let apart = five_members seen.cycle table seen.packets.now decision entry (omega arith) in
     let absent = added _ (absent_ones seen.cycle table decision) _ c.note_absent.ensures.items in
-    let off = added _ (off_values seen.cycle table seen.packets.now decision) _ c.note_values.ensures.items in
+    let off = added _ (off_values seen.cycle table seen.packets.now decision entry) _ c.note_values.ensures.items in
     omega arith

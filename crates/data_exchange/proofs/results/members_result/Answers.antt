@@ -6,5 +6,5 @@ use Rattle.data_exchange.proofs.results.members_result.Goals as goal
 
 pub returns : goal.returns
 returns g c value alike =
-    c.members_vote.ensures
-    ∙ ap packet_in (sym (members_vote-counts g.row.N c.args.service.now value (cell_at c.args.results.now) alike c.args.table.now c.n-valid.ensures.valid c.requires.elements))
+    c.members_vote.ensures.vote
+    ∙ ap packet_in (sym (members_vote-counts g.row.N c.args.service.now value (cell_at c.args.results.now) alike c.args.table.now c.members_vote.ensures.valid c.requires.elements))

@@ -21,11 +21,11 @@ module _ (table : TableValue) (service : Service) (value : ℕ → Cell) where
   unfolding members_vote vote
   not_voted named = ap (λ o. vote (map (member_counts_as service value) (unwrap_or (option_map live_members o) []))) named
 
-pub returns-in-Some : goal.returns-in-Some
-returns-in-Some g c =
+pub returns-in-Some-clause-vote : goal.returns-in-Some-clause-vote
+returns-in-Some-clause-vote g c =
     c.packet_in.ensures
     ∙ ap packet_in (voted c.args.table.now c.args.service.now (cell_at c.args.values.now) c.in-Some.group.now c.as_slice.result.now c.as_slice-in-Some.result.now c.vote_lanes.result
     c.in-Some.ensures.group c.as_slice.ensures.value (c.as_slice-in-Some.ensures.value ∙ c.live_cells-cells.ensures.cells) c.vote_lanes.ensures)
 
-pub returns-in-None : goal.returns-in-None
-returns-in-None g c = ap packet_in (not_voted c.args.table.now c.args.service.now (cell_at c.args.values.now) c.in-None.ensures.group)
+pub returns-in-None-clause-vote : goal.returns-in-None-clause-vote
+returns-in-None-clause-vote g c = ap packet_in (not_voted c.args.table.now c.args.service.now (cell_at c.args.values.now) c.in-None.ensures.group)

@@ -1,7 +1,7 @@
 use Rattle.std.proofs.Common.{arith}
 use Rattle.std.specs.Prelude.{None}
 use Rattle.std.proofs.lemmas.List.FromFn.{fill_by_all}
-use Rattle.run.specs.Noted.{where_relayed}
+use Rattle.element_core.specs.Noted.{where_relayed}
 use Rattle.element_core.proofs.emitting.relayed_packets.Goals as goal
 
 pub returns : goal.returns

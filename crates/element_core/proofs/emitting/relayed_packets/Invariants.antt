@@ -1,7 +1,7 @@
 use Rattle.std.proofs.Common.{◌≡◌, ℕ, ◌<◌, ◌≤◌, length}
 use Rattle.std.specs.Prelude.{None}
 use Rattle.ftpp_base.specs.Lists.{cell_at}
-use Rattle.run.specs.Noted.{where_relayed}
+use Rattle.element_core.specs.Noted.{where_relayed}
 use Rattle.element_core.proofs.emitting.relayed_packets.Given as goal
 
 -- the cells of the senders so far, and none of the others

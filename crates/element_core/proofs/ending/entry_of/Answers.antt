@@ -1,8 +1,8 @@
 use Rattle.std.proofs.Common.{sym, ap, ◌∙◌, subst}
 use Rattle.config_table.specs.declared.decisions.Decision.{Decision}
 use Rattle.element_notes.specs.AtHand.{AreResults}
-use Rattle.run.specs.Sent.{is_relayed}
-use Rattle.run.specs.Element.{own_entry}
+use Rattle.element_core.specs.Sent.{is_relayed}
+use Rattle.element_core.specs.Element.{own_entry}
 use Rattle.element_core.proofs.Exchanges.{entry_own}
 use Rattle.element_core.proofs.ending.entry_of.Goals as goal
 

@@ -1,6 +1,6 @@
 use Rattle.std.proofs.Common.{◌∙◌, ◌++◌, ap, arith}
 use Rattle.ftpp_base.specs.Sets.{has}
-use Rattle.run.specs.Noted.{off_copies}
+use Rattle.element_notes.specs.Notes.{off_copies}
 use Rattle.element_notes.proofs.OffRows.{copies_off, copies_few, longer}
 use Rattle.element_notes.proofs.copies.note_copies.Goals as goal
 

@@ -1,6 +1,6 @@
 use Rattle.std.proofs.Common.{◌∙◌, ◌++◌, ap}
 use Rattle.ftpp_base.specs.Sets.{has}
-use Rattle.run.specs.Noted.{off_relays}
+use Rattle.element_notes.specs.Notes.{off_relays}
 use Rattle.element_notes.proofs.AllNotes.{copies_counts, relays_counts}
 use Rattle.element_notes.proofs.copies.note_exchange.Goals as goal
 

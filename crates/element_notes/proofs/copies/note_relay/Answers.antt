@@ -1,6 +1,6 @@
 use Rattle.std.proofs.Common.{◌≢◌, ◌∙◌, ◌++◌, ap}
 use Rattle.ftpp_base.specs.Sets.{has}
-use Rattle.run.specs.Noted.{off_by}
+use Rattle.element_notes.specs.Notes.{off_by}
 use Rattle.element_notes.proofs.OffRows.{relay_off, by_few, longer}
 use Rattle.element_notes.proofs.copies.note_relay.Goals as goal
 

@@ -2,7 +2,7 @@ use Rattle.std.proofs.Common.{◌≡◌, ◌+◌, ◌*◌, ◌≤◌, ◌++◌, 
 use Rattle.std.specs.List.{flat_map}
 use Rattle.ftpp_base.specs.Lists.{others}
 use Rattle.ftpp_base.specs.Sets.{has}
-use Rattle.run.specs.Noted.{off_by}
+use Rattle.element_notes.specs.Notes.{off_by}
 use Rattle.element_notes.proofs.copies.note_relays.Given as goal
 
 -- the entries on the relays so far

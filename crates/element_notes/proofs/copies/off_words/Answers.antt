@@ -8,7 +8,7 @@ loop-k-init g c = gathers_none (is_off_word c.args.x.now c.args.counts.now c.arg
 pub loop-k-preserved : goal.loop-k-preserved
 loop-k-preserved g c =
     let test = is_off_word c.args.x.now c.args.counts.now c.args.of in
-    gathers_more test c.loop-k.k c.element-sender.result c.loop-k.off _ c.is_off_word-is_off.result c.loop-k.invariant c.is_off_word-is_off.ensures c.element-sender.ensures
+    gathers_more test c.loop-k.k c.at-sender.result c.loop-k.off _ c.is_off_word-is_off.result c.loop-k.invariant c.is_off_word-is_off.ensures c.at-sender.ensures
     c.put_if-off.ensures
 
 pub returns : goal.returns

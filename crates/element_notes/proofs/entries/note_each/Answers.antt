@@ -10,6 +10,6 @@ loop-k-preserved c =
     let before = c.loop-k.invariant in record {
       items = appended_more about (has c.args.nes.now) c.loop-k.k c.args.out.now.items c.loop-k.out.items _ _ _ before.items c.push_if.ensures.items
           c.has.ensures
-          (c.entry_about-entry.ensures ∙ ap about c.element.ensures);
+          (c.entry_about-entry.ensures ∙ ap about c.at.ensures);
       few = omega (arith, before.few, c.push_if.ensures.few);
     }

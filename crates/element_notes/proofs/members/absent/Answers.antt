@@ -1,5 +1,5 @@
 use Rattle.std.proofs.Common.{◌∙◌, ap, sym}
-use Rattle.data_exchange.specs.Entries.{senders}
+use Rattle.config_table.specs.Members.{senders}
 use Rattle.element_notes.specs.Words.{is_absent}
 use Rattle.element_notes.proofs.Standing.{left_out}
 use Rattle.element_notes.proofs.members.absent.Goals as goal

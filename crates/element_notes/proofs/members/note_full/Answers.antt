@@ -1,7 +1,7 @@
 use Rattle.std.proofs.Common.{◌<◌, ◌≤◌, ◌∙◌, ◌++◌, ap, arith}
 use Rattle.ftpp_base.specs.Lists.{below}
 use Rattle.syndrome_log.specs.declared.SyndromeKind.TheVariants as kind
-use Rattle.run.specs.Syndromes.{accused_where}
+use Rattle.element_notes.specs.Notes.{accused_where}
 use Rattle.element_notes.specs.declared.entries.Heading.{Heading}
 use Rattle.element_notes.specs.Words.{is_full}
 use Rattle.element_notes.proofs.Accusing.{accused_same, full_entries}

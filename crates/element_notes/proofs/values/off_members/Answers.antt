@@ -8,7 +8,7 @@ loop-k-init g c = gathers_none (is_off_member c.args.x.now c.args.results.now c.
 pub loop-k-preserved : goal.loop-k-preserved
 loop-k-preserved g c =
     let test = is_off_member c.args.x.now c.args.results.now c.args.compared.now c.args.entry.now c.args.admitted.now in
-    gathers_more test c.loop-k.k c.element-ne.result c.loop-k.off _ c.is_off_member-is_off.result c.loop-k.invariant c.is_off_member-is_off.ensures c.element-ne.ensures
+    gathers_more test c.loop-k.k c.at-ne.result c.loop-k.off _ c.is_off_member-is_off.result c.loop-k.invariant c.is_off_member-is_off.ensures c.at-ne.ensures
     c.put_if-off.ensures
 
 pub returns : goal.returns

@@ -1,6 +1,6 @@
 use Rattle.std.proofs.Common.{◌∙◌, sym, ap, cond, None}
 use Rattle.ftpp_base.specs.Sets.{has}
-use Rattle.data_exchange.specs.Entries.{member_at, senders}
+use Rattle.config_table.specs.Members.{member_at, senders}
 use Rattle.element_ports.proofs.LiveMember.{admitted_member}
 use Rattle.element_ports.proofs.members.admitted_at.Goals as goal
 

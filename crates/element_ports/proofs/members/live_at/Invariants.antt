@@ -1,5 +1,5 @@
 use Rattle.std.proofs.Common.{◌≡◌, drop}
-use Rattle.data_exchange.specs.Entries.{member_at, live_in}
+use Rattle.config_table.specs.Members.{member_at, live_in}
 use Rattle.element_ports.proofs.LiveMember.{live_from}
 use Rattle.element_ports.proofs.members.live_at.Given as goal
 

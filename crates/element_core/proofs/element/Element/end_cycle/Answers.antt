@@ -5,16 +5,16 @@ use Rattle.config_table.specs.declared.decisions.Decision.{Decision}
 use Rattle.config_table.specs.Table.{IsValid}
 use Rattle.syndrome_log.specs.Log.{last_kept}
 use Rattle.element_notes.specs.AtHand.{AreResults}
-use Rattle.run.specs.Sent.{is_relayed}
-use Rattle.run.specs.Element.{Kept, own_entry, own_update, own_service, own_handed, made, kept_after}
-use Rattle.run.specs.Noted.{noted_by, decided_by}
-use Rattle.run.proofs.PhaseLaws.{kept_size}
+use Rattle.element_core.specs.Sent.{is_relayed}
+use Rattle.element_core.specs.Element.{Kept, own_entry, own_update, own_service, own_handed, made, kept_after}
+use Rattle.element_core.specs.Noted.{noted_by, decided_by}
+use Rattle.element_core.proofs.PhaseLaws.{kept_size}
 use Rattle.flag_vote.specs.Flags.{voted_flags}
 use Rattle.scoreboard.specs.Board.{Scoreboard}
 use Rattle.scoreboard.specs.Times.{OnlyMembersLag}
 use Rattle.scoreboard.proofs.MemberLags.{members_step}
 use Rattle.element_core.specs.ElementValue.{ElementValue, pattern_now, packets_now, decision_now, ended_with}
-use Rattle.element_core.specs.Midst.{element_with}
+use Rattle.element_core.specs.Pending.{element_with}
 use Rattle.element_core.specs.Told.{told_of}
 use Rattle.element_core.proofs.StepLaws.{kept_me}
 use Rattle.element_core.proofs.Holding.{few_by, holds_begun}
@@ -25,9 +25,9 @@ use Rattle.element_core.proofs.element.Element.end_cycle.Given.{Over}
 -- ---- what the calls need
 
 -- the results at hand are those of the senders that are relayed
-are_relayed : (g : Over) (c : goal.After-results-1 g) → AreResults g.row.N c.self.inside.packets (is_relayed c.self.inside.midst.decision) c.results_of-results.result
+are_relayed : (g : Over) (c : goal.After-results-1 g) → AreResults g.row.N c.self.inside.packets (is_relayed c.self.inside.pending.decision) c.results_of-results.result
 are_relayed g c =
-    results_are g.row.N c.self.inside.packets (is_relayed c.self.inside.midst.decision) c.relayed.result c.results_of-results.result
+    results_are g.row.N c.self.inside.packets (is_relayed c.self.inside.pending.decision) c.relayed.result c.results_of-results.result
     (few_by g.row.N c.self.invariant.0.size) c.results_of-results.ensures.results c.relayed.ensures
 
 pub entry_of-packet-requires : goal.entry_of-packet-requires
@@ -45,7 +45,7 @@ entry_of-packet-requires g c =
           few,
           (
             ap (λ t. t.n) c.table.ensures.table ∙ h.elements,
-            (decision_fits_now g.row.N e s.midst h due valid, are_relayed g c),
+            (decision_fits_now g.row.N e s.pending h due valid, are_relayed g c),
           ),
         ),
       ),
@@ -67,8 +67,8 @@ update_of-asked-requires g c =
           (
             ap (λ t. t.n) c.table-2.ensures.table ∙ h.elements,
             (
-              decision_fits_now g.row.N e s.midst h due valid,
-              results_are g.row.N s.packets (is_relayed s.midst.decision) c.relayed.result c.results_of-results.result few c.results_of-results.ensures.results c.relayed.ensures,
+              decision_fits_now g.row.N e s.pending h due valid,
+              results_are g.row.N s.packets (is_relayed s.pending.decision) c.relayed.result c.results_of-results.result few c.results_of-results.ensures.results c.relayed.ensures,
             ),
           ),
         ),
@@ -84,7 +84,7 @@ noted-syndromes-requires g c =
     let decision = (h.agreed (rw due (omega arith))).decision in
     let packets : s.packets ≡ record { me = s.kept.me; copies = s.packets.copies; relayed = s.packets.relayed } =
     λ i. record { me = c.self.invariant.2 i; copies = s.packets.copies; relayed = s.packets.relayed } in
-    let are = results_are g.row.N s.packets (is_relayed s.midst.decision) c.relayed.result c.results_of-results.result few c.results_of-results.ensures.results c.relayed.ensures in
+    let are = results_are g.row.N s.packets (is_relayed s.pending.decision) c.relayed.result c.results_of-results.result few c.results_of-results.ensures.results c.relayed.ensures in
     let results = subst (λ (x : Echoes). AreResults g.row.N x (is_relayed (decided_by s.kept s.patterns.copies s.patterns.relayed)) c.results_of-results.result) packets
     (subst (λ (d : Decision). AreResults g.row.N s.packets (is_relayed d) c.results_of-results.result) decision are) in
     let entry = c.as_ref.ensures.value ∙ c.entry_of-packet.ensures ∙ (λ i. own_entry (c.table.ensures.table i) (decision i) (packets i)) in (
@@ -123,7 +123,7 @@ ending g c =
     element_with s.kept s.patterns s.packets s.due (option_map (told_of {n = g.row.N}) s.last) s.log
 
 -- what it has at hand
-at_hand : (g : Over) (c : goal.After-self-4-1 g) → IsAtHand (ending g c) c.self.inside.midst.decision c.entry_of-packet.result c.update_of-asked.result
+at_hand : (g : Over) (c : goal.After-self-4-1 g) → IsAtHand (ending g c) c.self.inside.pending.decision c.entry_of-packet.result c.update_of-asked.result
 at_hand g c =
     let s = c.self.inside in
     let due = ap (λ (v : ElementValue). v.due) c.self.view_is ∙ c.requires in
@@ -136,15 +136,15 @@ at_hand g c =
     }
 
 -- what it keeps after the decision was served
-serves : (g : Over) (c : goal.After-self-4-1 g) → c.serve-handed.new.self ≡ served_by (ending g c) c.self.inside.midst.decision c.entry_of-packet.result c.self.inside.midst.after
-serves g c = c.serve-handed.ensures.kept ∙ (λ i. served_by (ending g c) c.self.inside.midst.decision (c.as_ref-2.ensures.value i) c.self.inside.midst.after)
+serves : (g : Over) (c : goal.After-self-4-1 g) → c.serve-handed.new.self ≡ served_by (ending g c) c.self.inside.pending.decision c.entry_of-packet.result c.self.inside.pending.after
+serves g c = c.serve-handed.ensures.kept ∙ (λ i. served_by (ending g c) c.self.inside.pending.decision (c.as_ref-2.ensures.value i) c.self.inside.pending.after)
 
 -- and after the cycle
 keeps : (g : Over) (c : goal.After-self-4-1 g) → c.update-update.new.self ≡ kept_after (ending g c).kept (made (ending g c).kept (ending g c).heard)
 keeps g c =
     let s = c.self.inside in
     let due = ap (λ (v : ElementValue). v.due) c.self.view_is ∙ c.requires in
-    kept_ends (ending g c) s.midst.decision c.entry_of-packet.result c.update_of-asked.result s.midst.after c.serve-handed.new.self c.update-update.new.self
+    kept_ends (ending g c) s.pending.decision c.entry_of-packet.result c.update_of-asked.result s.pending.after c.serve-handed.new.self c.update-update.new.self
     c.self.invariant.0.cells due (at_hand g c) (c.self.invariant.0.agreed (rw due (omega arith))).after (serves g c) c.update-update.ensures.kept
 
 pub invariant_of-self : goal.invariant_of-self
@@ -170,8 +170,8 @@ returns g c =
     let due = ap (λ (v : ElementValue). v.due) c.self.view_is ∙ c.requires in
     let agreed = h.agreed (rw due (omega arith)) in
     let notes = c.noted-syndromes.ensures ∙ sym (ap (λ (v : ElementValue). noted_by v.kept (made v.kept v.heard)) c.self.view_is) in
-    let handed = c.serve-handed.ensures.handed ∙ (λ i. own_handed s.kept s.midst.decision (c.as_ref-2.ensures.value i) (own_service s.kept s.midst.decision)) in
-    let told = told_ends e c.cycle-cycle.result s.midst.pattern s.midst.decision c.entry_of-packet.result c.serve-handed.result c.update_of-asked.result c.update-update.result
+    let handed = c.serve-handed.ensures.handed ∙ (λ i. own_handed s.kept s.pending.decision (c.as_ref-2.ensures.value i) (own_service s.kept s.pending.decision)) in
+    let told = told_ends e c.cycle-cycle.result s.pending.pattern s.pending.decision c.entry_of-packet.result c.serve-handed.result c.update_of-asked.result c.update-update.result
     c.serve-handed.new.self.table c.noted-syndromes.result.items h.cells due (at_hand g c) c.cycle-cycle.ensures.cycle agreed.pattern handed
     (ap (λ (k : Kept). k.table) (serves g c)) c.update-update.ensures.outcome notes in
     let log = c.extend_from_slice.ensures ∙ (λ i. last_kept (s.log ++ (c.as_slice.ensures.value ∙ notes) i)) in

@@ -3,12 +3,12 @@ use Rattle.std.specs.Prelude.{option_map}
 use Rattle.ftpp_base.specs.Lists.{cell_at, each_below}
 use Rattle.ftpp_base.specs.declared.element.Round.TheVariants.{B1, B2}
 use Rattle.two_round.specs.Echoes.{Echoes}
-use Rattle.run.specs.Element.{own_packet}
-use Rattle.run.specs.Noted.{decided_by}
+use Rattle.element_core.specs.Element.{own_packet}
+use Rattle.element_core.specs.Noted.{decided_by}
 use Rattle.element_core.specs.ElementValue.{ElementValue, rounds_heard, after_absorb, copy_taken, taken_of, frames_in}
 use Rattle.element_core.specs.declared.Due.{Due}
 use Rattle.element_core.specs.declared.Due.TheVariants.{Emit}
-use Rattle.element_core.specs.Midst.{element_with, IsElement}
+use Rattle.element_core.specs.Pending.{element_with, IsElement}
 use Rattle.element_core.specs.Told.{told_of}
 use Rattle.element_core.proofs.Holding.{first_are, own_put, holds_packets}
 use Rattle.element_core.proofs.element.Element.hear_packets.Goals as goal
@@ -49,8 +49,8 @@ invariant_of-self g c =
     let last = option_map (told_of {n = g.row.N}) s.last in
     let frames = frames_in (g.L.Link.came c.args.link.now) in
     let due = ap (λ (e : ElementValue). e.due) c.self.view_is ∙ c.requires.due in (
-      subst (λ (x : Echoes). IsElement g.row.N (element_with s.kept s.patterns x (Emit B2) last s.log) s.midst) (sym (packets_are g c))
-          (holds_packets g.row.N (element_with s.kept s.patterns s.packets s.due last s.log) s.midst frames c.self.invariant.0 due),
+      subst (λ (x : Echoes). IsElement g.row.N (element_with s.kept s.patterns x (Emit B2) last s.log) s.pending) (sym (packets_are g c))
+          (holds_packets g.row.N (element_with s.kept s.patterns s.packets s.due last s.log) s.pending frames c.self.invariant.0 due),
       c.self.invariant.1,
       ap (λ (x : Echoes). x.me) (packets_are g c) ∙ c.self.invariant.2,
     )

@@ -4,7 +4,7 @@ use Rattle.ftpp_base.specs.declared.element.Round.TheVariants.{A2, B1}
 use Rattle.two_round.specs.Echoes.{Echoes}
 use Rattle.element_core.specs.ElementValue.{ElementValue, after_absorb, patterns_now, frames_in}
 use Rattle.element_core.specs.declared.Due.TheVariants.{Emit}
-use Rattle.element_core.specs.Midst.{element_with, IsElement}
+use Rattle.element_core.specs.Pending.{element_with, IsElement}
 use Rattle.element_core.specs.Told.{told_of}
 use Rattle.element_core.proofs.StepLaws.{own_cells_stay}
 use Rattle.element_core.proofs.Holding.{second_are, agreed_midst, holds_agreed}
@@ -26,7 +26,7 @@ invariant_of-self g c =
     let agreed = agreed_midst g.row.N after c.decide.new.self c.hear_echoes.new.exchange h.elements cells (omega arith) now
     c.decide.ensures.results c.decide.ensures.pattern c.decide.ensures.decision c.decide.ensures.after c.decide.ensures.lines c.decide.ensures.earlier in (
       subst (λ (x : Echoes). IsElement g.row.N (element_with s.kept x s.packets (Emit B1) last s.log) c.decide.new.self) (sym is)
-          (holds_agreed g.row.N e s.midst c.decide.new.self frames h due agreed),
+          (holds_agreed g.row.N e s.pending c.decide.new.self frames h due agreed),
       ap (λ (x : Echoes). x.me) is ∙ c.self.invariant.1,
       c.self.invariant.2,
     )

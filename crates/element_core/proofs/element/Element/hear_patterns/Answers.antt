@@ -3,10 +3,10 @@ use Rattle.std.specs.Prelude.{option_map}
 use Rattle.ftpp_base.specs.Lists.{cell_at, each_below}
 use Rattle.ftpp_base.specs.declared.element.Round.TheVariants.{A1, A2}
 use Rattle.two_round.specs.Echoes.{Echoes}
-use Rattle.run.specs.Noted.{own_pattern}
+use Rattle.element_core.specs.Noted.{own_pattern}
 use Rattle.element_core.specs.ElementValue.{ElementValue, after_absorb, copy_taken, taken_of, frames_in}
 use Rattle.element_core.specs.declared.Due.TheVariants.{Emit}
-use Rattle.element_core.specs.Midst.{element_with, IsElement}
+use Rattle.element_core.specs.Pending.{element_with, IsElement}
 use Rattle.element_core.specs.Told.{told_of}
 use Rattle.element_core.proofs.Holding.{first_are, own_put, holds_patterns}
 use Rattle.element_core.proofs.element.Element.hear_patterns.Goals as goal
@@ -43,8 +43,8 @@ invariant_of-self g c =
     let last = option_map (told_of {n = g.row.N}) s.last in
     let frames = frames_in (g.L.Link.came c.args.link.now) in
     let due = ap (λ (e : ElementValue). e.due) c.self.view_is ∙ c.requires.due in (
-      subst (λ (x : Echoes). IsElement g.row.N (element_with s.kept x s.packets (Emit A2) last s.log) s.midst) (sym (patterns_are g c))
-          (holds_patterns g.row.N (element_with s.kept s.patterns s.packets s.due last s.log) s.midst frames c.self.invariant.0 due),
+      subst (λ (x : Echoes). IsElement g.row.N (element_with s.kept x s.packets (Emit A2) last s.log) s.pending) (sym (patterns_are g c))
+          (holds_patterns g.row.N (element_with s.kept s.patterns s.packets s.due last s.log) s.pending frames c.self.invariant.0 due),
       ap (λ (x : Echoes). x.me) (patterns_are g c) ∙ c.self.invariant.1,
       c.self.invariant.2,
     )

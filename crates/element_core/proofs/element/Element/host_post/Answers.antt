@@ -1,9 +1,9 @@
 use Rattle.std.proofs.Common.{◌≡◌, cond, subst}
 use Rattle.std.specs.Prelude.{is_ok}
-use Rattle.packet_format.specs.declared.Act.TheVariants.{Post}
-use Rattle.packet_format.specs.declared.ActAnswer.TheVariants.{Posted as Accepted}
-use Rattle.packet_format.specs.declared.ActAnswer.TheVariants.{PostFull as Full}
-use Rattle.run.specs.AloneRun.{own_answer}
+use Rattle.packet_format.specs.declared.acts.Act.TheVariants.{Post}
+use Rattle.packet_format.specs.declared.acts.ActAnswer.TheVariants.{Posted as Accepted}
+use Rattle.packet_format.specs.declared.acts.ActAnswer.TheVariants.{PostFull as Full}
+use Rattle.element_core.specs.AloneRun.{own_answer}
 use Rattle.element_core.specs.ElementValue.{ElementValue}
 use Rattle.element_core.proofs.element.Element.host_post.Goals as goal
 

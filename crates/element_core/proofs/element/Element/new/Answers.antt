@@ -1,6 +1,6 @@
 use Rattle.std.proofs.Common.{◌≡◌, ◌<◌, subst, sym, ap, ◌∙◌}
 use Rattle.two_round.specs.Echoes.{no_echoes}
-use Rattle.run.specs.Element.{Kept}
+use Rattle.element_core.specs.Element.{Kept}
 use Rattle.element_core.proofs.Holding.{holds_begun, size_on}
 use Rattle.element_core.proofs.element.Element.new.Goals as goal
 

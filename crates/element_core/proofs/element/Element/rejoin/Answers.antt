@@ -1,5 +1,5 @@
 use Rattle.std.proofs.Common.{◌≡◌, ◌≤◌, ℕ, refl, ap, ◌∙◌, subst, arith}
-use Rattle.run.specs.Run.{AgreedState as Agreed}
+use Rattle.element_core.specs.Run.{AgreedState as Agreed}
 use Rattle.element_core.specs.ElementValue.{ElementValue}
 use Rattle.element_core.specs.Rejoins.{IsVotedState}
 use Rattle.element_core.proofs.Holding.{few_by}

@@ -2,7 +2,7 @@ use Rattle.std.proofs.Common.{◌∙◌, ap, ℕ, arith}
 use Rattle.std.proofs.lemmas.List.FromFn.{fill_by_all}
 use Rattle.local_pattern.specs.Pattern.{quiet}
 use Rattle.config_table.specs.Table.{in_limit}
-use Rattle.run.specs.Processors.{port_queues, shown_entry}
+use Rattle.element_ports.specs.PortQueues.{port_queues, shown_entry}
 use Rattle.element_ports.specs.Ports.{proc_at}
 use Rattle.element_ports.proofs.ports.Ports.column.Goals as goal
 

@@ -1,6 +1,6 @@
 use Rattle.std.proofs.Common.{◌≡◌, ℕ, ◌<◌, length, get_or}
 use Rattle.local_pattern.specs.Pattern.{quiet}
-use Rattle.run.specs.Processors.{port_queues, shown_entry}
+use Rattle.element_ports.specs.PortQueues.{port_queues, shown_entry}
 use Rattle.element_ports.proofs.ports.Ports.column.Given as goal
 
 abbrev pub invariant-loop-port : goal.invariant-loop-port

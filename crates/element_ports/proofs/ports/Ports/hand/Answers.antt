@@ -7,9 +7,10 @@ use Rattle.config_table.specs.Table.{in_limit}
 use Rattle.processor_buffers.specs.declared.Handed.{Handed}
 use Rattle.processor_buffers.specs.Queues.{Queues, no_queues, after_delivery, handed_by}
 use Rattle.processor_buffers.specs.Buffers.{buffers_after}
-use Rattle.data_exchange.specs.Entries.{member_at}
-use Rattle.run.specs.Cycle.{receivers, after_entry}
-use Rattle.run.specs.Element.{delivered_to, handed_by_own}
+use Rattle.config_table.specs.Members.{member_at}
+use Rattle.config_table.specs.Members.{receivers}
+use Rattle.element_ports.specs.PortQueues.{after_entry}
+use Rattle.element_ports.specs.PortQueues.{delivered_to, handed_by_own}
 use Rattle.element_ports.specs.Ports.{PortsValue}
 use Rattle.element_ports.proofs.PortChanges.{seen-changed, ins_by_table, queues_seen}
 use Rattle.element_ports.proofs.ports.Ports.hand.Goals as goal

@@ -2,9 +2,9 @@ use Rattle.std.proofs.Common.{◌∙◌, ap, arith}
 use Rattle.std.specs.Prelude.{Option}
 use Rattle.ftpp_base.specs.declared.element.Proc.{Proc}
 use Rattle.processor_buffers.specs.Queues.{after_pop}
-use Rattle.data_exchange.specs.Entries.{member_at}
-use Rattle.run.specs.Cycle.{admitted_members}
-use Rattle.run.specs.Element.{with_port}
+use Rattle.config_table.specs.Members.{member_at}
+use Rattle.config_table.specs.Members.{admitted_members}
+use Rattle.element_ports.specs.PortQueues.{with_port}
 use Rattle.element_ports.specs.Ports.{PortsValue}
 use Rattle.element_ports.proofs.PortChanges.{seen-changed}
 use Rattle.element_ports.proofs.ports.Ports.pop_admitted.Goals as goal

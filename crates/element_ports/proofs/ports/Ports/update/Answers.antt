@@ -1,6 +1,6 @@
 use Rattle.std.proofs.Common.{◌∙◌, ap, sym}
 use Rattle.ftpp_base.specs.declared.element.Proc.{Proc}
-use Rattle.run.specs.Element.{own_cleared}
+use Rattle.element_ports.specs.PortQueues.{own_cleared}
 use Rattle.element_ports.specs.Ports.{PortsValue}
 use Rattle.element_ports.proofs.GoesOver.{goes-past, goes-through}
 use Rattle.element_ports.proofs.ports.Ports.update.Goals as goal

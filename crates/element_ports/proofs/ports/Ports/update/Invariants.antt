@@ -1,5 +1,5 @@
 use Rattle.std.proofs.Common.{◌≡◌, drop}
-use Rattle.run.specs.Element.{own_cleared}
+use Rattle.element_ports.specs.PortQueues.{own_cleared}
 use Rattle.element_ports.proofs.GoesOver.{Goes}
 use Rattle.element_ports.proofs.ports.Ports.update.Given as goal
 

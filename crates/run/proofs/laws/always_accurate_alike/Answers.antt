@@ -1,5 +1,0 @@
-use Rattle.run.proofs.Members.{always_accurate_alike}
-use Rattle.run.proofs.laws.always_accurate_alike.Goals as goal
-
-pub returns : goal.returns
-returns c = always_accurate_alike

@@ -1,5 +1,0 @@
-use Rattle.run.proofs.RunsLawful.{each_cycle_lawful}
-use Rattle.run.proofs.laws.each_cycle_lawful.Goals as goal
-
-pub returns : goal.returns
-returns c = each_cycle_lawful

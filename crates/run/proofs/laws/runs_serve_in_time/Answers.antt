@@ -1,5 +1,0 @@
-use Rattle.run.proofs.ServiceLaw.{runs_serve_in_time}
-use Rattle.run.proofs.laws.runs_serve_in_time.Goals as goal
-
-pub returns : goal.returns
-returns c = runs_serve_in_time
