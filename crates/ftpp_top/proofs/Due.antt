@@ -1,6 +1,6 @@
 -- The acts of a cycle, taken from those that are left.
 use Rattle.std.proofs.Common.{◌≡◌, ℕ, ◌+◌, ◌<◌, ◌≤◌, List, [], ◌∷◌, ◌++◌, length, refl, ap, sym, subst, ◌∙◌, arith, append_assoc, append-nil, length-append}
-use Rattle.packet_format.specs.declared.Act.{Act}
+use Rattle.packet_format.specs.declared.acts.Act.{Act}
 use Rattle.ftpp_top.specs.Acts.{acts_at, IsOrdered}
 use Rattle.ftpp_top.proofs.Sound.{entry_here, entry_other, length-more}
 

@@ -10,3 +10,4 @@ pub mod Sound
 pub mod Steps
 pub mod Sums
 pub mod Told
+pub mod CycleOfScript

@@ -9,8 +9,8 @@ use Rattle.std.proofs.lemmas.List.Elements.{All-nil, All-cons, All-head, All-tai
 use Rattle.std.proofs.lemmas.Bool.{lt-ltb}
 use Rattle.ftpp_outside.specs.Told.{Adds}
 use Rattle.ftpp_outside.proofs.Told.{adds_none, adds_both}
-use Rattle.packet_format.specs.declared.Act.{Act}
-use Rattle.packet_format.specs.declared.Act.TheVariants.{Post, Read}
+use Rattle.packet_format.specs.declared.acts.Act.{Act}
+use Rattle.packet_format.specs.declared.acts.Act.TheVariants.{Post, Read}
 use Rattle.plain_cluster.specs.declared.requests.Line.{Line}
 use Rattle.plain_cluster.specs.declared.requests.Request.{Request}
 use Rattle.plain_cluster.specs.Requests.{vids_in, is_line_of, marked, ended_line, ended}

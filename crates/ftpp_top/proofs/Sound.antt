@@ -3,7 +3,7 @@ use Rattle.std.proofs.Common.{◌≡◌, ℕ, ◌+◌, ◌*◌, ◌<◌, ◌≤�
 use Rattle.std.specs.Prelude.{All}
 use Rattle.std.proofs.lemmas.Bool.{eqb-true, eqb-false}
 use Rattle.std.proofs.lemmas.List.Elements.{All-nil, All-cons, All-head, All-tail, All-append}
-use Rattle.packet_format.specs.declared.Act.{Act}
+use Rattle.packet_format.specs.declared.acts.Act.{Act}
 use Rattle.ftpp_top.specs.declared.script.Item.{Item}
 use Rattle.ftpp_top.specs.declared.script.Item.TheVariants.{Cycles, Posted}
 use Rattle.ftpp_top.specs.Script.{SoFar, Plan, IsPosted, IsWithin, IsLawful, asked_at, after_item, at_start}

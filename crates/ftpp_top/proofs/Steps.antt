@@ -1,6 +1,7 @@
 -- One line more.
 use Rattle.std.proofs.Common.{◌≡◌, ℕ, ◌+◌, ◌<◌, ◌≤◌, List, ◌∷◌, length, map, refl, ap, sym, ◌∙◌, arith, Some, None, Ok, Err, Option, Result}
 use Rattle.std.specs.Prelude.{count_by}
+use Rattle.script_words.specs.declared.refusals.Refused.{Refused}
 use Rattle.std.specs.List.{slice_split}
 use Rattle.std.proofs.lemmas.List.Splits.{length-slice_split}
 use Rattle.std.proofs.lemmas.List.Sums.{count_by-le-length}
@@ -38,7 +39,7 @@ walk_to bytes old new text front rest line item w cut e h =
       count = omega (arith, w.count, ap length cut);
     })
 
-walk_with : (bytes : List ℕ) (old new : SoFar) (text front : List ℕ) (rest : Option (List ℕ)) (line : ℕ) (read : Result (Option Item) ℕ) → Walks bytes old (Some text) line → slice_split is_newline text ≡ front ∷ pieces_left rest → line_read old (words_of (strip_carriage_return front)) ≡ read → Takes old read (line + 1) (Ok tt) new → Walks bytes new rest (line + 1)
+walk_with : (bytes : List ℕ) (old new : SoFar) (text front : List ℕ) (rest : Option (List ℕ)) (line : ℕ) (read : Result (Option Item) Refused) → Walks bytes old (Some text) line → slice_split is_newline text ≡ front ∷ pieces_left rest → line_read old (words_of (strip_carriage_return front)) ≡ read → Takes old read (line + 1) (Ok tt) new → Walks bytes new rest (line + 1)
 walk_with bytes old new text front rest line (Err code) w cut e h = absurd cc
 walk_with bytes old new text front rest line (Ok None) w cut e h = walk_to bytes old new text front rest line None w cut e h.1
 walk_with bytes old new text front rest line (Ok (Some item)) w cut e h = walk_to bytes old new text front rest line (Some item) w cut e h
@@ -47,7 +48,7 @@ pub walk_on : (bytes : List ℕ) (old new : SoFar) (text front : List ℕ) (rest
 walk_on bytes old new text front rest line w cut h =
     walk_with bytes old new text front rest line (line_read old (words_of (strip_carriage_return front))) w cut refl h
 
-end_with : (bytes : List ℕ) (old new : SoFar) (text front : List ℕ) (rest : Option (List ℕ)) (line : ℕ) (read : Result (Option Item) ℕ) (why : ScriptError) → Walks bytes old (Some text) line → slice_split is_newline text ≡ front ∷ pieces_left rest → line_read old (words_of (strip_carriage_return front)) ≡ read → Takes old read (line + 1) (Err why) new → TakesAll bytes (Err why) new
+end_with : (bytes : List ℕ) (old new : SoFar) (text front : List ℕ) (rest : Option (List ℕ)) (line : ℕ) (read : Result (Option Item) Refused) (why : ScriptError) → Walks bytes old (Some text) line → slice_split is_newline text ≡ front ∷ pieces_left rest → line_read old (words_of (strip_carriage_return front)) ≡ read → Takes old read (line + 1) (Err why) new → TakesAll bytes (Err why) new
 end_with bytes old new text front rest line (Err code) Memory w cut e h = tt
 end_with bytes old new text front rest line (Err code) (At l k) w cut e h =
     let is-line : l ≡ line + 1 = cc in

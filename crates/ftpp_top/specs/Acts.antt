@@ -1,6 +1,6 @@
 -- What is posted in each cycle, and what keeps a script within the bounds of a run.
 use Rattle.std.specs.Prelude.{◌≡◌, ℕ, ◌+◌, ◌*◌, ◌<◌, ◌≤◌, Bool, ◌==◌, List, [], ◌∷◌, map, filter, length, All, Option, Some, None}
-use Rattle.packet_format.specs.declared.Act.{Act}
+use Rattle.packet_format.specs.declared.acts.Act.{Act}
 use Rattle.ftpp_top.specs.Script.{SoFar, Plan, IsPosted}
 
 -- whether an act is one of the cycle

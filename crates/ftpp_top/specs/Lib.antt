@@ -6,3 +6,4 @@ pub mod Run
 pub mod Script
 pub mod Tables
 pub mod Texts
+pub mod FollowsScript

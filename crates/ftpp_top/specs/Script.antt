@@ -1,7 +1,9 @@
 -- A script as its lines say, one after another, or its first refused line.
 use Rattle.std.specs.Prelude.{◌≡◌, ℕ, ◌+◌, ◌<◌, ◌≤◌, ◌&&◌, ◌==◌, nat_lt, nat_le, List, [], ◌∷◌, ◌++◌, codes, count_by, Option, Some, None, is_some, Result, Ok, Err, if◌then◌else◌}
-use Rattle.packet_format.specs.declared.Act.{Act}
-use Rattle.packet_format.specs.declared.Act.TheVariants.{Post, Read}
+use Rattle.script_words.specs.declared.refusals.Refused.{Refused}
+use Rattle.script_words.specs.declared.refusals.Refused.TheVariants.{NoForm}
+use Rattle.packet_format.specs.declared.acts.Act.{Act}
+use Rattle.packet_format.specs.declared.acts.Act.TheVariants.{Post, Read}
 use Rattle.ftpp_top.specs.declared.script.Item.{Item}
 use Rattle.ftpp_top.specs.declared.script.Item.TheVariants.{Cycles, Posted}
 use Rattle.ftpp_top.specs.declared.script.Reader.{Reader}
@@ -28,31 +30,31 @@ abbrev pub held : Reader → SoFar
 held r = record { cycles = r.cycles; acts = r.acts.items; last = r.last; asked = r.asked }
 
 -- the length of the run, which must have been said
-abbrev pub length_from : Option ℕ → Result ℕ ℕ
-length_from None = Err refused
+abbrev pub length_from : Option ℕ → Result ℕ Refused
+length_from None = Err NoForm
 length_from (Some total) = Ok total
 
-abbrev pub length_of : SoFar → Result ℕ ℕ
+abbrev pub length_of : SoFar → Result ℕ Refused
 length_of s = length_from s.cycles
 
 -- a cycle of the run that is not before the last line's
-unfoldable pub in_order : SoFar → ℕ → ℕ → Result ℕ ℕ
-in_order s total c = if nat_lt c total && nat_le s.last c then Ok c else Err refused
+unfoldable pub in_order : SoFar → ℕ → ℕ → Result ℕ Refused
+in_order s total c = if nat_lt c total && nat_le s.last c then Ok c else Err NoForm
 
 -- how many posts of this cycle came before
 abbrev pub asked_at : SoFar → ℕ → ℕ
 asked_at s c = if s.last == c then s.asked else 0
 
 -- at most 80 posts of one cycle
-unfoldable pub with_room : SoFar → ℕ → Act → Result Item ℕ
-with_room s c act = if nat_lt (asked_at s c) 80 then Ok (Posted c act) else Err refused
+unfoldable pub with_room : SoFar → ℕ → Act → Result Item Refused
+with_room s c act = if nat_lt (asked_at s c) 80 then Ok (Posted c act) else Err NoForm
 
-unfoldable pub cycles_line : SoFar → List ℕ → Result Item ℕ
+unfoldable pub cycles_line : SoFar → List ℕ → Result Item Refused
 cycles_line s count =
-    if is_some s.cycles then Err refused
+    if is_some s.cycles then Err NoForm
     else number_within 1 100000 count >>= λ c. Ok (Cycles c)
 
-unfoldable pub post_line : SoFar → List ℕ → List ℕ → List ℕ → List ℕ → List ℕ → List ℕ → Result Item ℕ
+unfoldable pub post_line : SoFar → List ℕ → List ℕ → List ℕ → List ℕ → List ℕ → List ℕ → Result Item Refused
 post_line s cycle proc dest class source packet = do
   total ← length_of s
   c ← number_of cycle
@@ -65,19 +67,19 @@ post_line s cycle proc dest class source packet = do
   with_room s at (Post p (record { dest = d; class = k; source = i }) x)
 
 -- the form of a cycle, by the words behind its name
-unfoldable pub at_item : SoFar → List ℕ → List ℕ → List (List ℕ) → Result Item ℕ
+unfoldable pub at_item : SoFar → List ℕ → List ℕ → List (List ℕ) → Result Item Refused
 at_item s cycle name (proc ∷ dest ∷ class ∷ source ∷ packet ∷ []) =
-    if is_word name (codes "post") then post_line s cycle proc dest class source packet else Err refused
-at_item s cycle name _ = Err refused
+    if is_word name (codes "post") then post_line s cycle proc dest class source packet else Err NoForm
+at_item s cycle name _ = Err NoForm
 
 -- the forms, by their words
-unfoldable pub line_item : SoFar → List (List ℕ) → Result Item ℕ
-line_item s (first ∷ count ∷ []) = if is_word first (codes "cycles") then cycles_line s count else Err refused
-line_item s (first ∷ cycle ∷ name ∷ words) = if is_word first (codes "at") then at_item s cycle name words else Err refused
-line_item s _ = Err refused
+unfoldable pub line_item : SoFar → List (List ℕ) → Result Item Refused
+line_item s (first ∷ count ∷ []) = if is_word first (codes "cycles") then cycles_line s count else Err NoForm
+line_item s (first ∷ cycle ∷ name ∷ words) = if is_word first (codes "at") then at_item s cycle name words else Err NoForm
+line_item s _ = Err NoForm
 
 -- a line that is not skipped gives an item
-unfoldable pub line_read : SoFar → List (List ℕ) → Result (Option Item) ℕ
+unfoldable pub line_read : SoFar → List (List ℕ) → Result (Option Item) Refused
 line_read s words = if is_skipped words then Ok None else line_item s words >>= λ item. Ok (Some item)
 
 -- what is known after an item
@@ -95,7 +97,7 @@ pub record Refusal : Type 0 where
   pub code : ℕ
 
 -- every line that is not taken has one code
-abbrev pub at_line : {A : Type 0} → ℕ → Result A ℕ → Result A Refusal
+abbrev pub at_line : {A : Type 0} → ℕ → Result A Refused → Result A Refusal
 at_line line (Ok x) = Ok x
 at_line line (Err code) = Err (record { line = line; code = refused })
 
@@ -151,7 +153,7 @@ Keeps old item (Ok u) new = new ≡ after_item old item
 Keeps old item (Err e) new = e ≡ Memory
 
 -- what a line does
-abbrev pub Takes : SoFar → Result (Option Item) ℕ → ℕ → Result Unit ScriptError → SoFar → Type 0
+abbrev pub Takes : SoFar → Result (Option Item) Refused → ℕ → Result Unit ScriptError → SoFar → Type 0
 Takes old (Err code) line r new = r ≡ Err (At line refused)
 Takes old (Ok None) line r new = (r ≡ Ok tt) × (new ≡ old)
 Takes old (Ok (Some item)) line r new = Keeps old item r new

@@ -7,6 +7,7 @@ pub mod laws;
 mod report;
 mod run;
 mod script;
+pub mod script_laws;
 mod status;
 mod tables;
 #[cfg(test)]

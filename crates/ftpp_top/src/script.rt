@@ -9,6 +9,7 @@ ghost use Rattle.ftpp_top.specs.Script.{at_start, held, length_of, in_order, ask
 
 use crate::fields::{REFUSED, number_between, processor};
 use packet_format::{Act, Descriptor};
+use script_words::Refused;
 use script_words::fields::{is_named, number, packet};
 use script_words::lines::{cut_line, without_carriage_return, words};
 use std::alloc::{AllocFailed, Global};
@@ -65,23 +66,23 @@ impl Reader {
         }
     }
 
-    fn length(&self) -> Result<u32, u8>
+    fn length(&self) -> Result<u32, Refused>
         ensures value { result ≡ length_of (held self.now) }
         ensures said { IfOk result (λ total. self.now.cycles ≡ Some total) }
     {
         match self.cycles {
-            None => Err(REFUSED),
+            None => Err(Refused::NoForm),
             Some(total) => Ok(total),
         }
     }
 
     #[tactic(auto, unfolding(crate::specs::Script::in_order))]
-    fn ordered(&self, total: u32, c: u64) -> Result<u32, u8>
+    fn ordered(&self, total: u32, c: u64) -> Result<u32, Refused>
         ensures value { result ≡ in_order (held self.now) total c }
         ensures order { IfOk result (λ at. (at < total) × (self.now.last ≤ at)) }
     {
         if c >= u64::from(total) || c < u64::from(self.last) {
-            return Err(REFUSED);
+            return Err(Refused::NoForm);
         }
         Ok(c as u32)
     }
@@ -93,7 +94,7 @@ impl Reader {
     }
 
     #[tactic(auto, unfolding(crate::specs::Script::with_room))]
-    fn with_room(&self, c: u32, act: Act) -> Result<Item, u8>
+    fn with_room(&self, c: u32, act: Act) -> Result<Item, Refused>
         requires within { IsWithin self.now.cycles c }
         requires order { self.now.last ≤ c }
         requires post { IsPosted act }
@@ -101,18 +102,18 @@ impl Reader {
         ensures lawful { IfOk result (IsLawful (held self.now)) }
     {
         if self.asked_at(c) >= 80 {
-            return Err(REFUSED);
+            return Err(Refused::NoForm);
         }
         Ok(Item::Posted(c, act))
     }
 
     #[tactic(auto, unfolding(crate::specs::Script::cycles_line))]
-    fn cycles_item(&self, count: &[u8]) -> Result<Item, u8>
+    fn cycles_item(&self, count: &[u8]) -> Result<Item, Refused>
         ensures value { result ≡ cycles_line (held self.now) count.now }
         ensures lawful { IfOk result (IsLawful (held self.now)) }
     {
         if self.cycles.is_some() {
-            return Err(REFUSED);
+            return Err(Refused::NoForm);
         }
         let c = number_between(1, 100_000, count)?;
         Ok(Item::Cycles(c))
@@ -127,7 +128,7 @@ impl Reader {
         class: &[u8],
         source: &[u8],
         bytes: &[u8],
-    ) -> Result<Item, u8>
+    ) -> Result<Item, Refused>
         ensures value { result ≡ post_line (held self.now) cycle.now proc.now dest.now class.now source.now bytes.now }
         ensures lawful { IfOk result (IsLawful (held self.now)) }
     {
@@ -148,7 +149,7 @@ impl Reader {
     }
 
     #[tactic(auto, unfolding(crate::specs::Script::at_item))]
-    fn at_item(&self, cycle: &[u8], name: &[u8], more: &[&[u8]]) -> Result<Item, u8>
+    fn at_item(&self, cycle: &[u8], name: &[u8], more: &[&[u8]]) -> Result<Item, Refused>
         ensures value { result ≡ at_item (held self.now) cycle.now name.now (map (λ w. w.now) more.now) }
         ensures lawful { IfOk result (IsLawful (held self.now)) }
     {
@@ -157,14 +158,14 @@ impl Reader {
                 if is_named(name, b"post") {
                     return self.post_item(cycle, proc, dest, class, source, bytes);
                 }
-                Err(REFUSED)
+                Err(Refused::NoForm)
             }
-            _ => Err(REFUSED),
+            _ => Err(Refused::NoForm),
         }
     }
 
     #[tactic(auto, unfolding(crate::specs::Script::line_item))]
-    fn item(&self, words: &[&[u8]]) -> Result<Item, u8>
+    fn item(&self, words: &[&[u8]]) -> Result<Item, Refused>
         ensures value { result ≡ line_item (held self.now) (map (λ w. w.now) words.now) }
         ensures lawful { IfOk result (IsLawful (held self.now)) }
     {
@@ -173,20 +174,20 @@ impl Reader {
                 if is_named(first, b"cycles") {
                     return self.cycles_item(count);
                 }
-                Err(REFUSED)
+                Err(Refused::NoForm)
             }
             [first, cycle, name, more @ ..] => {
                 if is_named(first, b"at") {
                     return self.at_item(cycle, name, more);
                 }
-                Err(REFUSED)
+                Err(Refused::NoForm)
             }
-            _ => Err(REFUSED),
+            _ => Err(Refused::NoForm),
         }
     }
 
     #[tactic(auto, unfolding(crate::specs::Script::line_read))]
-    fn words_item(&self, words: &[&[u8]]) -> Result<Option<Item>, u8>
+    fn words_item(&self, words: &[&[u8]]) -> Result<Option<Item>, Refused>
         ensures value { result ≡ line_read (held self.now) (map (λ w. w.now) words.now) }
         ensures lawful { IfOk result (λ item. IfSome item (IsLawful (held self.now))) }
     {
@@ -202,7 +203,7 @@ impl Reader {
 
     // What a line says.
     #[tactic(auto, using(crate::proofs::Forms::line_read_take))]
-    fn line(&self, line: &[u8]) -> Result<Option<Item>, u8>
+    fn line(&self, line: &[u8]) -> Result<Option<Item>, Refused>
         ensures value { result ≡ line_read (held self.now) (words_of (strip_carriage_return line.now)) }
         ensures lawful { IfOk result (λ item. IfSome item (IsLawful (held self.now))) }
     {
