@@ -1,6 +1,8 @@
 //! One element.
 
-ghost use Rattle.std.specs.Prelude.{◌≡◌, ◌<◌, ◌≤◌, ◌⊎◌, option_map, option_copied, Some, IfOk, is_ok, if◌then◌else◌};
+ghost use Rattle.std.specs.Prelude.{◌≡◌, ◌<◌, ◌≤◌, ◌⊎◌, ◌↔◌, length, option_map, option_copied, Some, IfOk, IsErr, is_ok, if◌then◌else◌};
+ghost use Rattle.config_table.specs.Table.{out_limit};
+ghost use Rattle.element_ports.specs.PortQueues.{port_queues};
 ghost use Rattle.packet_format.specs.declared.acts.Act.TheVariants.{Post, Read};
 ghost use Rattle.packet_format.specs.declared.acts.ActAnswer.TheVariants.{Posted as Accepted, PostFull as Full};
 ghost use Rattle.two_round.specs.Echoes.{no_echoes};
@@ -142,13 +144,14 @@ impl<const N: usize> Element<N> {
         &self.log
     }
 
-    /// The processor at a port, below 8, posts a packet with its request. PostFull exactly where its output is full; then
-    /// nothing changes.
+    /// The processor at a port, below 8, posts a packet with its request. PostFull exactly where its output
+    /// holds as many packets as its limit; then nothing changes.
     pub fn host_post(&mut self, port: u8, desc: Descriptor, packet: Packet) -> Result<(), PostFull>
         requires due { self.old.due ≡ Due.Emit Round.A1 }
         requires port { port < 8 }
         ensures element { self.new ≡ after_own_act (Post (record { ne = self.old.kept.me; port = port }) desc packet) self.old }
         ensures answer { own_answer self.old.kept.table self.old.kept.ports (Post (record { ne = self.old.kept.me; port = port }) desc packet) ≡ (if is_ok result then Accepted else Full) }
+        ensures full { IsErr result ↔ (length (port_queues self.old.kept.ports port).output ≡ out_limit self.old.kept.table (record { ne = self.old.kept.me; port = port })) }
     {
         self.kept.post(port, desc, packet)
     }

@@ -1,9 +1,9 @@
 //! What an element keeps from cycle to cycle.
 
-ghost use Rattle.std.specs.Prelude.{◌≡◌, ◌+◌, ◌<◌, ◌≤◌, Some, IfOk, is_ok, if◌then◌else◌};
+ghost use Rattle.std.specs.Prelude.{◌≡◌, ◌+◌, ◌<◌, ◌≤◌, ◌↔◌, Some, IfOk, IsErr, is_ok, length, if◌then◌else◌};
 ghost use Rattle.packet_format.specs.declared.acts.Act.TheVariants.{Post, Read};
 ghost use Rattle.packet_format.specs.declared.acts.ActAnswer.TheVariants.{Posted as Accepted, PostFull as Full};
-ghost use Rattle.config_table.specs.Table.{IsValid};
+ghost use Rattle.config_table.specs.Table.{IsValid, out_limit};
 ghost use Rattle.flag_vote.specs.Flags.{voted_flags};
 ghost use Rattle.scoreboard.specs.Board.{empty_scoreboard};
 ghost use Rattle.scoreboard.specs.Choice.{scoreboard_decision, scoreboard_after};
@@ -153,6 +153,7 @@ impl KeptState {
         requires { port < 8 }
         ensures kept { self.new ≡ record self.old { ports = own_act self.old.table self.old.ports (Post (record { ne = self.old.me; port = port }) desc packet) } }
         ensures answer { own_answer self.old.table self.old.ports (Post (record { ne = self.old.me; port = port }) desc packet) ≡ (if is_ok result then Accepted else Full) }
+        ensures full { IsErr result ↔ (length (port_queues self.old.ports port).output ≡ out_limit self.old.table (record { ne = self.old.me; port = port })) }
     {
         self.ports.post(port, desc, packet)
     }

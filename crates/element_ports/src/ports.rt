@@ -1,6 +1,6 @@
 //! The ports with their memory, and what processors do at them.
 
-ghost use Rattle.std.specs.Prelude.{◌≡◌, ◌<◌, length, is_ok, IfOk};
+ghost use Rattle.std.specs.Prelude.{◌≡◌, ◌<◌, ◌↔◌, length, is_ok, IfOk, IsErr};
 ghost use Rattle.packet_format.specs.declared.acts.Act.TheVariants.{Post, Read};
 ghost use Rattle.config_table.specs.Table.{TableValue, out_limit};
 ghost use Rattle.processor_buffers.specs.Queues.{first, has_out_room};
@@ -92,6 +92,8 @@ impl Ports {
             → self.new ≡ record self.old { queues = own_act table self.old.queues (Post (proc_at self.old.me port) desc packet) } }
         ensures answer { (table : TableValue) → HasLimits table self.old
             → is_ok result ≡ has_out_room (out_limit table (proc_at self.old.me port)) (port_queues self.old.queues port) }
+        ensures full { (table : TableValue) → HasLimits table self.old
+            → IsErr result ↔ (length (port_queues self.old.queues port).output ≡ out_limit table (proc_at self.old.me port)) }
         ensures me { self.new.me ≡ self.old.me }
         ensures limits { (table : TableValue) → HasLimits table self.old → HasLimits table self.new }
     {

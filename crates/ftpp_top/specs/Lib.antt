@@ -1,5 +1,6 @@
 -- What the clauses of this crate cite.
 pub mod Acts
+pub mod ClusterLaws
 pub mod Ends
 pub mod Fields
 pub mod Run

@@ -2,6 +2,7 @@
 #![tactic(auto)]
 
 mod call;
+pub mod cluster_laws;
 mod fields;
 pub mod laws;
 mod report;

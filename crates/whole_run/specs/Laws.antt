@@ -1,5 +1,5 @@
 -- What holds of each cycle from a sound state, whatever comes from outside, and so of each cycle of a run.
-use Rattle.std.specs.Prelude.{◌≡◌, ℕ, ◌+◌, ◌<◌, length}
+use Rattle.std.specs.Prelude.{◌≡◌, ℕ, ◌+◌, ◌<◌, ◌≤◌, length}
 use Rattle.std.specs.List.{AllByRecursion}
 use Rattle.config_table.specs.Table.{TableValue, IsValid}
 use Rattle.element_core.specs.Cycle.{State, Input, step}
@@ -50,3 +50,7 @@ pub record IsLawfulCycle (table : TableValue) (journal : Journal) (k : ℕ) : Ty
 -- so it is in each cycle of a run from a valid table
 abbrev pub EachCycleLawful : Type 0
 EachCycleLawful = (table : TableValue) (journal : Journal) (k : ℕ) → IsValid table → AllByRecursion (IsInput table.n) journal → k < length journal → IsLawfulCycle table journal k
+
+-- The number of a cycle is the number of cycles so far.
+abbrev pub CyclesAreCounted : Type 0
+CyclesAreCounted = (table : TableValue) (journal : Journal) (k : ℕ) → k ≤ length journal → (state_at table journal k).cycle ≡ k

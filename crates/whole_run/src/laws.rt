@@ -1,7 +1,7 @@
 //! What holds of each cycle and of whole runs: each function here stands for a law, which its clause states, and does nothing.
 
 ghost use Rattle.element_core.specs.Claims.{NoLossWithinSkew, RunsServeInTime};
-ghost use Rattle.whole_run.specs.Laws.{AlwaysAccurate, AlwaysAccurateAlike, AlwaysEqualEntries, AlwaysSourced, AlwaysUnchanged, EachCycleLawful, NeverSplit, OverrunsOnlyFull};
+ghost use Rattle.whole_run.specs.Laws.{AlwaysAccurate, AlwaysAccurateAlike, AlwaysEqualEntries, AlwaysSourced, AlwaysUnchanged, CyclesAreCounted, EachCycleLawful, NeverSplit, OverrunsOnlyFull};
 
 // ---- Each cycle.
 
@@ -46,6 +46,11 @@ pub fn each_cycle_lawful()
 {}
 
 // ---- Whole runs.
+
+/// The number of a cycle is the number of cycles so far.
+pub fn cycles_are_counted()
+    ensures { CyclesAreCounted }
+{}
 
 /// **Service bound.** A lawful request that is held alike is served within its longest wait, while its receiver keeps space.
 pub fn runs_serve_in_time()

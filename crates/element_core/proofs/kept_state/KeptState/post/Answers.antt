@@ -1,4 +1,7 @@
-use Rattle.std.proofs.Common.{ap, ◌∙◌}
+use Rattle.std.proofs.Common.{◌≡◌, ap, ◌∙◌, subst, length}
+use Rattle.std.specs.Prelude.{◌↔◌, IsErr}
+use Rattle.config_table.specs.Table.{out_limit}
+use Rattle.element_ports.specs.PortQueues.{port_queues}
 use Rattle.packet_format.specs.declared.acts.Act.TheVariants.{Post}
 use Rattle.element_ports.specs.Ports.{proc_at}
 use Rattle.element_core.specs.Element.{Kept}
@@ -16,3 +19,8 @@ pub returns-clause-kept : goal.returns-clause-kept
 returns-clause-kept c =
     ap (kept_at c.self.inside.cycle c.self.inside.table c.self.inside.scoreboard) (c.post.ensures.ports c.self.inside.table c.self.invariant.1)
     ∙ ap (λ (k : Kept). record k { ports = own_act k.table k.ports (Post (proc_at k.me c.args.port) c.args.desc c.args.packet) }) c.self.view_is
+
+pub returns-clause-full : goal.returns-clause-full
+returns-clause-full c =
+    subst (λ (k : Kept). IsErr c.post.result ↔ (length (port_queues k.ports c.args.port).output ≡ out_limit k.table (proc_at k.me c.args.port)))
+    c.self.view_is (c.post.ensures.full c.self.inside.table c.self.invariant.1)
