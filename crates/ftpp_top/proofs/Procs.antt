@@ -2,11 +2,12 @@
 use Rattle.std.proofs.Common.{◌≡◌, ℕ, ◌-◌, ◌<◌, Bool, true, false, List, [], ◌∷◌, Result, Ok, Err, cond, refl, sym, subst}
 use Rattle.std.specs.Prelude.{IfOk, nat_lt, ◌&&◌, ◌==◌}
 use Rattle.script_words.specs.declared.refusals.Refused.{Refused}
+use Rattle.script_words.specs.declared.refusals.Refused.TheVariants.{Processor}
 use Rattle.std.proofs.lemmas.Bool.{and_parts, ltb-true}
 use Rattle.ftpp_base.specs.declared.element.Proc.{Proc}
 use Rattle.script_words.specs.Fields.{is_digit, proc_of}
 
-chosen : (e p : ℕ) (a b : Bool) → ((a && nat_lt (e - 48) 4) && nat_lt (p - 48) 8) ≡ b → IfOk (cond b (let r : Result Proc Refused = Ok (record { ne = e - 48; port = p - 48 }) in r) (Err 5)) (λ q. (q.ne < 4) × (q.port < 8))
+chosen : (e p : ℕ) (a b : Bool) → ((a && nat_lt (e - 48) 4) && nat_lt (p - 48) 8) ≡ b → IfOk (cond b (let r : Result Proc Refused = Ok (record { ne = e - 48; port = p - 48 }) in r) (Err Processor)) (λ q. (q.ne < 4) × (q.port < 8))
 chosen e p a true h =
     let parts = and_parts (a && nat_lt (e - 48) 4) (nat_lt (p - 48) 8) h in
     let first = and_parts a (nat_lt (e - 48) 4) parts.0 in

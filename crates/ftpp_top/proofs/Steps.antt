@@ -28,7 +28,7 @@ goes : (s : SoFar) (line : ℕ) (front : List ℕ) (more : List (List ℕ)) (ite
 unfolding after_lines
 goes s line front more item e = rw e refl
 
-stops : (s : SoFar) (line : ℕ) (front : List ℕ) (more : List (List ℕ)) (code : ℕ) → line_read s (words_of front) ≡ Err code → after_lines s line (front ∷ more) ≡ Err (record { line = line; code = refused })
+stops : (s : SoFar) (line : ℕ) (front : List ℕ) (more : List (List ℕ)) (code : Refused) → line_read s (words_of front) ≡ Err code → after_lines s line (front ∷ more) ≡ Err (record { line = line; code = refused })
 unfolding after_lines
 stops s line front more code e = rw e refl
 
