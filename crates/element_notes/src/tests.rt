@@ -167,7 +167,8 @@ fn notes(table: &Table, case: &Case) -> Option<Row<Syndrome, 64>>
     let packets = exchange::<64>(me, &case.packets);
     let packet_results = results(&packets);
     let decision = case.decision;
-    let entry = row(case.entry).map(|bytes| Packet { bytes });
+    let packet = row(case.entry).map(|bytes| Packet { bytes });
+    let entry = packet.as_ref();
     let seen = Seen {
         me,
         cycle: 7,
@@ -178,7 +179,7 @@ fn notes(table: &Table, case: &Case) -> Option<Row<Syndrome, 64>>
         pattern_results: &results(&patterns),
         packets: &packets,
         packet_results: &packet_results,
-        entry: entry.as_ref(),
+        entry,
     };
     let mut out = Row::new();
     note(&seen, &mut out);

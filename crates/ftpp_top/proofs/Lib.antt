@@ -10,4 +10,3 @@ pub mod Sound
 pub mod Steps
 pub mod Sums
 pub mod Told
-pub mod CycleOfScript

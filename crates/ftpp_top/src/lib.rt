@@ -2,13 +2,11 @@
 #![tactic(auto)]
 
 mod call;
-pub mod cluster_laws;
 mod fields;
 pub mod laws;
 mod report;
 mod run;
 mod script;
-pub mod script_laws;
 mod status;
 mod tables;
 #[cfg(test)]
