@@ -8,8 +8,6 @@ mod groups;
 mod limits;
 mod lookups;
 mod tables;
-#[cfg(test)]
-mod tests;
 
 pub use decisions::{Decision, GroupFlags, Kind, Service, StateRow, VotedFlags};
 pub use errors::ConfigError;

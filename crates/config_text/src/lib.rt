@@ -7,8 +7,6 @@ mod keys;
 mod laws;
 mod printing;
 mod reading;
-#[cfg(test)]
-mod tests;
 mod values;
 
 pub use errors::{ConfigKey, Place, TextError};

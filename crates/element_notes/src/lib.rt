@@ -94,5 +94,3 @@ pub fn note<const N: usize>(seen: &Seen<N>, out: &mut Row<Syndrome, 64>)
     note_values(table, decision, packets, packet_results, entry, cycle, out);
 }
 
-#[cfg(test)]
-mod tests;

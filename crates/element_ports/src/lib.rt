@@ -9,5 +9,3 @@ mod updating;
 
 pub use ports::Ports;
 
-#[cfg(test)]
-mod tests;

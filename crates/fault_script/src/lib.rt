@@ -4,8 +4,6 @@
 mod adversaries;
 mod kept;
 mod players;
-#[cfg(test)]
-mod tests;
 
 pub use adversaries::{Adversary, NoFault};
 use frame_format::FrameBuf;

@@ -10,8 +10,6 @@ mod source;
 mod standard;
 mod std_shelf;
 mod steady;
-#[cfg(test)]
-mod tests;
 
 pub use mem_shelf::MemShelf;
 pub use mem_sink::MemSink;

@@ -3,8 +3,6 @@
 
 mod fabrics;
 mod links;
-#[cfg(test)]
-mod tests;
 
 pub use fabrics::{Carried, Fabric, Liar, Mesh, Recorder};
 pub use links::{Link, LinkEnd};

@@ -7,8 +7,6 @@ mod judge;
 pub mod laws;
 mod print;
 mod reading;
-#[cfg(test)]
-mod tests;
 
 use fault_script::Edit;
 use ftpp_base::Ne;
