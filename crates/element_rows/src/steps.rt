@@ -1,13 +1,13 @@
 mod bench;
 mod cases;
 
-use element_core::*;
 use bench::{Seat, arrive, leaving, new_seat, packet, post, read, rejoin, run, send, state, take};
 use bit_vote::Cells;
 use cases::{CASES, Case, Done, ROUNDS, UPDATE};
 use config_table::{Decision, Kind};
+use element_core::*;
 use frame_format::FrameBuf;
-use ftpp_base::{Ne, Proc, Row, Set8};
+use ftpp_base::{Ne, Proc, Round, Row, Set8};
 use local_pattern::{LocalPattern, SystemPattern};
 use packet_format::Delivered;
 use processor_buffers::{Handed, PostFull};

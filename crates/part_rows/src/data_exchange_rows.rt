@@ -1,8 +1,8 @@
 ghost use Rattle.std.specs.Prelude.{◌≡◌, IfSome};
 
-use data_exchange::*;
 use bit_vote::Cells;
 use config_table::{Group, Kind, Service, Table};
+use data_exchange::*;
 use ftpp_base::{Ne, Set8};
 use packet_format::{Descriptor, Packet};
 use std::test::Fail;

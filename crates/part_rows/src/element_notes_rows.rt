@@ -2,9 +2,9 @@ ghost use Rattle.std.specs.Prelude.{◌≡◌, ◌≢◌, ℕ, ◌<◌, ◌≤�
 ghost use Rattle.ftpp_base.specs.Lists.{cell_at};
 ghost use Rattle.two_round.specs.Echoes.{result_for};
 
-use element_notes::*;
 use bit_vote::Cells;
 use config_table::{Decision, Group, Kind, Service, Table};
+use element_notes::*;
 use ftpp_base::{Ne, Row, Set8};
 use local_pattern::{Entry, LocalPattern, SystemPattern};
 use packet_format::{Descriptor, Packet};

@@ -1,7 +1,7 @@
 ghost use Rattle.element_ports.specs.Ports.{HasLimits};
 
-use element_ports::*;
 use config_table::{ConfigError, Decision, Group, Kind, Service, Table};
+use element_ports::*;
 use ftpp_base::{Ne, Proc, Set8};
 use local_pattern::Entry;
 use packet_format::{Delivered, Descriptor, Packet};

@@ -1,5 +1,5 @@
-use frame_format::*;
 use bit_vote::Cells;
+use frame_format::*;
 use ftpp_base::{Ne, Round, Slot};
 use std::test::Fail;
 

@@ -1,8 +1,8 @@
 ghost use Rattle.std.specs.Prelude.{◌≡◌, IfSome};
 
-use link_fabric::{Fabric, Liar, Link, LinkEnd, Mesh, Recorder};
 use frame_format::FrameBuf;
 use ftpp_base::{Ne, Round, Slot};
+use link_fabric::{Fabric, Liar, Link, LinkEnd, Mesh, Recorder};
 use std::test::Fail;
 
 const SLOT: Slot = Slot {

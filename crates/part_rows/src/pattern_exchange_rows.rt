@@ -1,9 +1,10 @@
-use pattern_exchange::*;
 use bit_vote::Cells;
-use ftpp_base::Proc;
+use ftpp_base::{Ne, Proc};
 use local_pattern::Entry;
 use packet_format::Descriptor;
+use pattern_exchange::*;
 use std::test::Fail;
+use two_round::TwoRound;
 
 /// A row of eight ports, all with the same four bytes but for the first byte of the first one.
 fn row(first: u8, all: [u8; 4]) -> Option<[u8; 32]> {

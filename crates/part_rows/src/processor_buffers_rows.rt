@@ -1,5 +1,5 @@
-use processor_buffers::*;
 use packet_format::{Delivered, Descriptor, Packet};
+use processor_buffers::*;
 use std::test::*;
 
 const REQUEST: Descriptor = Descriptor {

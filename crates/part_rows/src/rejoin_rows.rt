@@ -1,6 +1,6 @@
-use rejoin::{STATE_BYTES, decode_state, encode_state};
 use ftpp_base::{Proc, Set8};
 use packet_format::Descriptor;
+use rejoin::{STATE_BYTES, decode_state, encode_state};
 use std::test::Fail;
 
 /// The first bytes of four elements and five groups at cycle 0. An independent writer gave them, and those below.

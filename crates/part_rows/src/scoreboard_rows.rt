@@ -1,9 +1,9 @@
 ghost use Rattle.std.specs.Prelude.{◌≤◌, length};
 
-use scoreboard::*;
 use config_table::{Decision, Group, GroupFlags, Kind, Table, VotedFlags};
 use ftpp_base::Set8;
 use packet_format::Descriptor;
+use scoreboard::*;
 use std::test::Fail;
 
 /// The live elements of each group of the table of four elements.

@@ -1,8 +1,8 @@
-use table_update::*;
-use config_table::{Group, Table};
+use config_table::{ConfigError, Group, Table};
 use ftpp_base::Set8;
 use packet_format::Packet;
 use std::test::*;
+use table_update::*;
 
 /// A packet of these bytes and zeros behind them.
 fn packet(start: &[u8]) -> Packet {

@@ -1,7 +1,7 @@
-use two_round::*;
 use bit_vote::Cells;
 use ftpp_base::{Ne, Set8};
 use std::test::Fail;
+use two_round::*;
 
 /// Eight ports that are empty and not full, but for the first byte of the first one.
 fn column(first: u8) -> Option<[u8; 32]> {

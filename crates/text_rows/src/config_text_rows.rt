@@ -1,5 +1,5 @@
-use config_text::{ConfigKey, Place, TextError, print_config, read_config};
 use config_table::{ConfigError, Group};
+use config_text::{ConfigKey, Place, TextError, print_config, read_config};
 use ftpp_base::Proc;
 use std::test::Fail;
 

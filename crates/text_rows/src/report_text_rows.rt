@@ -1,12 +1,12 @@
 mod bench;
 mod cases;
 
-use report_text::{TextBuf, Totals, end_text, trace_text};
 use bench::{fullest, report_of, shown};
 use cases::CASES;
 use element_core::Rejoined;
 use frame_format::FrameBuf;
 use ftpp_base::{Ne, Round};
+use report_text::{TextBuf, Totals, end_text, trace_text};
 use std::test::Fail;
 
 #[test]

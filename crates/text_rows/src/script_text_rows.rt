@@ -1,6 +1,6 @@
-use script_text::{ScriptError, print_script, read_script};
 use config_table::{Group, Table};
 use fault_script::EditKind;
+use script_text::{ScriptError, print_script, read_script};
 use std::alloc::{AllocError, Global};
 use std::test::Fail;
 

@@ -3,9 +3,9 @@
 ghost use Rattle.std.specs.Prelude.{◌≡◌, IfSome};
 
 use super::cases::{Case, Change, Edit, Posts, ROUNDS};
-use element_core::{Due, Element, Rejoined};
 use bit_vote::Cells;
 use config_table::{Group, Table};
+use element_core::{Due, Element, Rejoined};
 use frame_format::{FrameBuf, copy_frame};
 use ftpp_base::{Ne, Round, Set8};
 use link_fabric::LinkEnd;

@@ -4,13 +4,13 @@ ghost use Rattle.std.specs.Prelude.{◌≡◌, ◌<◌, ◌⊎◌, IsTrue};
 ghost use Rattle.report_text.specs.Sums.{IsBounded};
 
 use super::cases::{Asked, Case, Decided, Way};
-use report_text::{TextBuf, Totals, cycle_text};
 use config_table::{Decision, Kind, Service};
 use element_core::{CycleRecord, CycleReport, Rejoined};
 use ftpp_base::{Ne, Proc, Row, Set8};
 use local_pattern::{Entry, LocalPattern, SystemPattern};
 use packet_format::{Act, ActAnswer, Delivered, Descriptor, HostActs, Packet};
 use processor_buffers::Handed;
+use report_text::{TextBuf, Totals, cycle_text};
 use syndrome_log::{Syndrome, SyndromeKind};
 
 fn packet(first: [u8; 3]) -> Packet {
