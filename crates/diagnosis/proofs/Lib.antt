@@ -1,0 +1,4 @@
+pub mod Left
+pub mod Masking
+pub mod Seats
+pub mod Settled
