@@ -1,0 +1,5 @@
+-- Lemmas of this crate.
+pub mod Migrating
+pub mod Pieces
+pub mod Stepping
+pub mod Writing
