@@ -5,11 +5,11 @@ use Rattle.config_table.specs.declared.errors.ConfigError.{ConfigError}
 use Rattle.config_table.specs.Table.{group_error, table_error}
 use Rattle.built_in_tables.specs.Tables.{c4, c5}
 
-four_valid : table_error c4 ≡ None
+pub four_valid : table_error c4 ≡ None
 unfolding table_error group_error
 four_valid = refl
 
-five_valid : table_error c5 ≡ None
+pub five_valid : table_error c5 ≡ None
 unfolding table_error group_error
 five_valid = refl
 

@@ -4,6 +4,7 @@ ghost use Rattle.std.specs.Prelude.{◌≡◌, ◌<◌, ◌≤◌};
 ghost use Rattle.workload.specs.Draws.{pick, draws};
 
 const MULTIPLIER: u64 = 6_364_136_223_846_793_005;
+
 const INCREMENT: u64 = 1_442_695_040_888_963_407;
 
 /// What is drawn for a cycle.

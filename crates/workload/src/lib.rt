@@ -5,6 +5,7 @@
 mod acts;
 mod draws;
 mod edits;
+pub mod laws;
 mod script;
 #[cfg(test)]
 mod tests;

@@ -1,7 +1,10 @@
 //! The script, cycle by cycle.
 
-ghost use Rattle.std.specs.Prelude.{◌≡◌, ◌≤◌, ◌*◌, IfOk, IsTrue, vec_len};
+ghost use Rattle.std.specs.Prelude.{◌≡◌, ◌≤◌, ◌*◌, length, IfOk, IsTrue};
 ghost use Rattle.script_text.specs.Reading.{plan_of};
+ghost use Rattle.script_text.specs.Printing.{IsScript};
+ghost use Rattle.script_text.specs.Playable.{IsPlayable};
+ghost use Rattle.fault_script.specs.Edited.{never_fall};
 ghost use Rattle.workload.specs.Workload.{workload};
 
 use crate::acts::push_acts;
@@ -44,6 +47,14 @@ pub fn make_script(alloc: Global, start: u64, cycles: u32) -> Result<Script, NoM
     requires few { cycles ≤ 100000 }
     // The workload as it is defined, field by field.
     ensures script { IfOk result (λ s. plan_of s ≡ workload start cycles) }
+    // It can be played by five elements, and printed and read again.
+    ensures playable { IfOk result (λ s. IsPlayable 5 (plan_of s)) }
+    ensures printable { IfOk result (λ s. IsScript 5 (plan_of s)) }
+    // The cycles of its edits do not fall.
+    ensures edits { IfOk result (λ s. IsTrue (never_fall 0 s.edits.items)) }
+    // Its length, its faulty element and how many acts there are, as a cluster wants to know.
+    ensures cycles { IfOk result (λ s. s.cycles ≡ cycles) }
+    ensures acts { IfOk result (λ s. length s.acts.items ≤ 12 * cycles) }
 {
     match generate(alloc, start, cycles) {
         Ok(script) => Ok(script),
