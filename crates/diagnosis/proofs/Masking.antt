@@ -12,11 +12,10 @@ use Rattle.config_table.specs.declared.limits.TheConstants.{FEWEST_MANAGERS}
 use Rattle.config_table.specs.declared.errors.ConfigError.{ConfigError}
 use Rattle.config_table.specs.declared.errors.ConfigError.TheVariants.{GroupCount, VidOrder, SharedProcessor, Masked, ManagerLive}
 use Rattle.config_table.specs.Groups.{is_member, members_of, live_count}
-use Rattle.config_table.specs.Table.{TableValue, IsValid, is_named, group_named, unless, is_within, first_error, follows, is_free, masked_error, order_error, shared_error, group_errors, group_error, groups_error, count_error, elements_error, manager_error, table_errors, table_error, error_code}
+use Rattle.config_table.specs.Table.{TableValue, IsValid, is_named, group_named, unless, is_within, follows, masked_error, order_error, shared_error, group_errors, group_error, groups_error, count_error, elements_error, manager_error, table_error, error_code}
 use Rattle.config_table.proofs.ValidTable.{no_error, valid_tests, named-there, none_first, none_rest}
 use Rattle.config_table.proofs.NamedGroups.{Ascending, Ascending-valid}
 use Rattle.table_update.specs.declared.Update.TheVariants.{Mask}
-use Rattle.table_update.specs.declared.Applied.{Applied}
 use Rattle.table_update.specs.Updates.{with_masked, with_changed, has_member, where_there, updated, judged, applied_to, applied, if_valid, table_after}
 
 -- ---- errors one after another
@@ -75,11 +74,11 @@ group-masked n m vid earlier g set e =
     ∙ skip _ _ h.1.1.1.1.0
     ∙ skip _ _ free
     ∙ alone (masked_error (with_set set g)) _ (
-      skip _ _ h.1.1.1.1.1.1.1.0
-      ∙ skip _ _ h.1.1.1.1.1.1.1.1.0
-      ∙ skip _ _ h.1.1.1.1.1.1.1.1.1.0
-      ∙ skip _ _ h.1.1.1.1.1.1.1.1.1.1.0
-      ∙ skip _ _ h.1.1.1.1.1.1.1.1.1.1.1.0)
+    skip _ _ h.1.1.1.1.1.1.1.0
+    ∙ skip _ _ h.1.1.1.1.1.1.1.1.0
+    ∙ skip _ _ h.1.1.1.1.1.1.1.1.1.0
+    ∙ skip _ _ h.1.1.1.1.1.1.1.1.1.1.0
+    ∙ skip _ _ h.1.1.1.1.1.1.1.1.1.1.1.0)
 
 -- ---- all groups
 

@@ -1,10 +1,10 @@
 -- The table after all proposals for an element: each group is settled by itself.
-use Rattle.std.proofs.Common.{◌≡◌, ℕ, ◌<◌, ◌≤◌, Bool, true, false, cond, List, [], ◌∷◌, length, refl, ap, arith, sym, ◌∙◌, subst, find, fold, Option, Some, None, option_map, slice_get, Contains, ◌⊎◌}
-use Rattle.std.specs.Prelude.{◌==◌, is_none}
+use Rattle.std.proofs.Common.{◌≡◌, ℕ, ◌<◌, ◌≤◌, Bool, true, false, cond, List, [], ◌∷◌, length, refl, ap, arith, sym, ◌∙◌, subst, find, Option, Some, None, option_map, slice_get}
+use Rattle.std.specs.Prelude.{◌==◌}
 use Rattle.std.specs.List.{AllByRecursion, cons_option}
 use Rattle.std.proofs.lemmas.Bool.{eqb-true, ne_eqb, eq-eqb}
 use Rattle.ftpp_base.specs.declared.element.Proc.{Proc}
-use Rattle.ftpp_base.proofs.Among.{each, all-both, weaker}
+use Rattle.ftpp_base.proofs.Among.{each, all-both}
 use Rattle.config_table.specs.declared.groups.Group.{Group}
 use Rattle.config_table.specs.declared.errors.ConfigError.{ConfigError}
 use Rattle.config_table.specs.Groups.{members_of, is_live}
@@ -15,8 +15,8 @@ use Rattle.table_update.specs.declared.Update.{Update}
 use Rattle.table_update.specs.declared.Update.TheVariants.{Mask}
 use Rattle.table_update.specs.declared.Applied.{Applied}
 use Rattle.table_update.specs.declared.Applied.TheVariants.{Done, Refused, Absent}
-use Rattle.table_update.specs.Updates.{with_masked, with_changed, judged, applied, table_after}
-use Rattle.diagnosis.specs.Proposals.{live_index_at, if_done, mask_on, proposal_for, left_by, proposals_for, proposals, after_all}
+use Rattle.table_update.specs.Updates.{with_masked, judged, applied, table_after}
+use Rattle.diagnosis.specs.Proposals.{live_index_at, if_done, mask_on, proposal_for, left_by, proposals_for, after_all}
 use Rattle.diagnosis.specs.Laws.{is_done, AreDone, EachProposalDone, CannotBeMasked, OnlyNeededLeft, table_masked}
 use Rattle.diagnosis.proofs.Masking.{none_named, masked_if, named-masked, mask_error, mask_error-code, masked_table, table-masked, applied-mask, after-mask}
 use Rattle.diagnosis.proofs.Seats.{live_index-below, live-found, live-free, live-before}
@@ -113,7 +113,7 @@ next_at manager table g (Some m) valid same named l =
     let is = applied-mask table g.vid m g valid named (l m refl) in
     let here = mask_next manager table g m (mask_error table.manager (with_masked m g)) valid same named (l m refl) refl in
     let Q : Applied → Type 0 = λ a. IsNext manager table (left_by table (if_done a (Mask g.vid m))) g.vid (settled_if (mask_error manager (with_masked m g)) m g) in
-    subst Q (sym is ) (subst (λ k. IsNext manager table (left_by table (if_done (judged (mask_error table.manager (with_masked m g)) []) (Mask g.vid m))) g.vid (settled_if (mask_error k (with_masked m g)) m g)) same here)
+    subst Q (sym is) (subst (λ k. IsNext manager table (left_by table (if_done (judged (mask_error table.manager (with_masked m g)) []) (Mask g.vid m))) g.vid (settled_if (mask_error k (with_masked m g)) m g)) same here)
 
 proposal_next : (manager : ℕ) (table : TableValue) (ne : ℕ) (g : Group) → IsValid table → table.manager ≡ manager → group_named table g.vid ≡ Some g
     → IsNext manager table (left_by table (proposal_for table ne g)) g.vid (settled manager ne g)

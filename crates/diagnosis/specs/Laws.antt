@@ -1,6 +1,5 @@
 -- What is promised of suspects and of proposals, over the definitions.
 use Rattle.std.specs.Prelude.{◌≡◌, ℕ, Bool, true, false, ◌⊎◌, List, [], ◌∷◌, ◌++◌, slice_get, Contains, filter, Some}
-use Rattle.ftpp_base.specs.Lists.{others}
 use Rattle.ftpp_base.specs.declared.element.Proc.{Proc}
 use Rattle.syndrome_log.specs.declared.Syndrome.{Syndrome}
 use Rattle.config_table.specs.declared.groups.Group.{Group}

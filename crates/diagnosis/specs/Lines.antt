@@ -1,8 +1,7 @@
 -- The lines of a diagnosis.
-use Rattle.std.specs.Prelude.{ℕ, suc, Bool, not, List, [], ◌∷◌, ◌++◌, codes, slice_index_or, Option, Some, None, if◌then◌else◌}
+use Rattle.std.specs.Prelude.{ℕ, suc, List, [], ◌∷◌, ◌++◌, codes, slice_index_or, Option, Some, None, if◌then◌else◌}
 use Rattle.std.specs.List.{flat_map}
 use Rattle.std.specs.Fmt.{decimal}
-use Rattle.arrayvec.specs.ArrayVec.{ArrayVec}
 use Rattle.ftpp_base.specs.Lists.{is_this}
 use Rattle.config_table.specs.Table.{TableValue}
 use Rattle.table_update.specs.declared.Update.{Update}

@@ -23,6 +23,17 @@ impl Model for Suspects {
     ghost view = { λ s. s.left.items };
 }
 
+// An entry of a `Row` needs a value to begin with.
+impl Default for Suspects {
+    ghost use Rattle.std.specs.Prelude.{[]};
+
+    ghost is_default = { λ s. s ≡ [] };
+
+    fn default() -> Suspects {
+        Suspects { left: Row::new() }
+    }
+}
+
 impl Suspects {
     /// All of `n` elements but `me`.
     #[tactic(auto, using(crate::proofs::Left::below_more, crate::proofs::Left::below_length))]
