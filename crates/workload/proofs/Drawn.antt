@@ -1,7 +1,7 @@
 -- What is drawn lies in its ranges.
-use Rattle.std.proofs.Common.{◌≡◌, ℕ, ◌+◌, ◌%◌, ◌<◌, ◌≤◌, arith}
+use Rattle.std.proofs.Common.{ℕ, ◌<◌, arith}
 use Rattle.workload.specs.declared.draws.Draws.{Draws}
-use Rattle.workload.specs.Draws.{next_state, draws}
+use Rattle.workload.specs.Draws.{draws}
 
 pub record AreDraws (d : Draws) : Type 0 where
   pub dest : d.dest < 256

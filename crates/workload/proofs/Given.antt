@@ -1,6 +1,5 @@
 -- What callers need to know of a script that is a workload.
-use Rattle.std.proofs.Common.{◌≡◌, ℕ, ◌*◌, ◌≤◌, List, [], ◌∷◌, length, vec_len, refl, ap, sym, subst, ◌∙◌, arith, true, IsTrue}
-use Rattle.std.specs.Prelude.{nat_le}
+use Rattle.std.proofs.Common.{◌≡◌, ℕ, ◌*◌, ◌≤◌, List, [], ◌∷◌, length, refl, ap, sym, subst, arith, true, IsTrue}
 use Rattle.std.proofs.lemmas.Bool.{le-leb}
 use Rattle.fault_script.specs.declared.Edit.{Edit}
 use Rattle.fault_script.specs.Edited.{never_fall}

@@ -1,5 +1,5 @@
 -- A workload can be played by five elements.
-use Rattle.std.proofs.Common.{◌≡◌, ℕ, zero, suc, ◌+◌, ◌*◌, ◌/◌, ◌%◌, ◌<◌, ◌≤◌, ◌^◌, Bool, true, false, cond, eqb, leb, rules, List, [], ◌∷◌, ◌++◌, length, map, replicate, slice_index, refl, ap, sym, subst, ◌∙◌, arith, Option, Some, None, IsTrue}
+use Rattle.std.proofs.Common.{◌≡◌, ℕ, zero, suc, ◌+◌, ◌*◌, ◌%◌, ◌<◌, ◌≤◌, Bool, true, false, cond, eqb, leb, List, [], ◌∷◌, ◌++◌, length, map, refl, ap, sym, subst, arith, Option, Some, None}
 use Rattle.std.specs.Prelude.{count_by}
 use Rattle.std.specs.List.{AllByRecursion}
 use Rattle.std.specs.Option.{option_to_list}
@@ -9,9 +9,6 @@ use Rattle.ftpp_base.specs.declared.element.Proc.{Proc}
 use Rattle.ftpp_base.proofs.Among.{weaker, all-append, all-replicate}
 use Rattle.ftpp_base.proofs.Counts.{count_by-cons}
 use Rattle.packet_format.specs.declared.acts.Act.{Act}
-use Rattle.packet_format.specs.declared.acts.Act.TheVariants.{Post, Read}
-use Rattle.packet_format.specs.Numbers.{four_bytes}
-use Rattle.packet_format.specs.Packets.{filled_up}
 use Rattle.fault_script.specs.declared.Edit.{Edit}
 use Rattle.fault_script.specs.declared.EditKind.TheVariants.{Drop, Flip, Repeat}
 use Rattle.ftpp_base.specs.declared.element.Round.TheVariants.{A1, A2, B1}
@@ -20,11 +17,11 @@ use Rattle.script_text.specs.Playable.{ActIsThere, EditIsThere, IsPlayable}
 use Rattle.script_text.proofs.InTurn.{playable_is_script}
 use Rattle.built_in_tables.specs.Tables.{c5}
 use Rattle.workload.specs.declared.draws.Draws.{Draws}
-use Rattle.workload.specs.Draws.{next_state, pick, draws}
+use Rattle.workload.specs.Draws.{pick, draws}
 use Rattle.workload.specs.Acts.{members, packet_of, post, posts, read, reads, acts_at}
 use Rattle.workload.specs.Edits.{edit, edit_of, other_than}
 use Rattle.workload.specs.Workload.{acts_from, edits_from, workload}
-use Rattle.workload.proofs.Members.{IsThere, AreMembers, are_members}
+use Rattle.workload.proofs.Members.{IsThere, are_members}
 use Rattle.workload.proofs.Drawn.{AreDraws, are_draws}
 
 -- ---- the acts of a cycle

@@ -1,5 +1,5 @@
 -- The workload of a number: a script for the built-in table of five elements.
-use Rattle.std.specs.Prelude.{ℕ, zero, suc, ◌+◌, List, [], ◌++◌, Option, Some}
+use Rattle.std.specs.Prelude.{ℕ, zero, suc, ◌+◌, List, [], ◌++◌, Some}
 use Rattle.std.specs.Option.{option_to_list}
 use Rattle.packet_format.specs.declared.acts.Act.{Act}
 use Rattle.fault_script.specs.declared.Edit.{Edit}

@@ -52,7 +52,7 @@ pub fn make_script(alloc: Global, start: u64, cycles: u32) -> Result<Script, NoM
     ensures printable { IfOk result (λ s. IsScript 5 (plan_of s)) }
     // The cycles of its edits do not fall.
     ensures edits { IfOk result (λ s. IsTrue (never_fall 0 s.edits.items)) }
-    // Its length, its faulty element and how many acts there are, as a cluster wants to know.
+    // Its length, and how many acts there are, as a cluster wants to know.
     ensures cycles { IfOk result (λ s. s.cycles ≡ cycles) }
     ensures acts { IfOk result (λ s. length s.acts.items ≤ 12 * cycles) }
 {

@@ -1,4 +1,4 @@
-use Rattle.std.proofs.Common.{◌≡◌, ◌++◌, ℕ, ap, arith, ◌∙◌}
+use Rattle.std.proofs.Common.{◌≡◌, ◌++◌, ap, arith, ◌∙◌}
 use Rattle.std.specs.Option.{option_to_list}
 use Rattle.built_in_tables.specs.Tables.{c5}
 use Rattle.workload.specs.Draws.{pick, draws}

@@ -1,5 +1,4 @@
 use Rattle.std.proofs.Common.{◌≡◌, ◌-◌, ◌++◌}
-use Rattle.built_in_tables.specs.Tables.{c5}
 use Rattle.workload.specs.Workload.{acts_from, edits_from}
 use Rattle.workload.proofs.script.generate.Given as goal
 
