@@ -1,0 +1,9 @@
+pub mod Known
+pub mod Trace
+pub mod Laws
+pub mod Watched
+pub mod Links
+pub mod Progress
+pub mod Told
+pub mod AuditedTrace
+pub mod Reading
