@@ -1,7 +1,7 @@
 -- What an element noted since the last rejoin names the faulty element; so that one is a suspect.
-use Rattle.std.proofs.Common.{◌≡◌, ℕ, zero, suc, ◌+◌, ◌<◌, ◌≤◌, Bool, true, false, cond, not, List, [], ◌∷◌, ◌++◌, length, refl, ap, arith, sym, ◌∙◌, ◌⊎◌, inl, inr, subst, filter, Option, Some, None}
+use Rattle.std.proofs.Common.{◌≡◌, ℕ, zero, suc, ◌+◌, ◌<◌, ◌≤◌, Bool, true, false, not, List, [], ◌∷◌, length, refl, ap, arith, sym, ◌∙◌, ◌⊎◌, inl, inr, subst, filter, Option, Some, None}
 use Rattle.std.specs.Prelude.{◌||◌, ◌&&◌, ◌==◌}
-use Rattle.std.specs.List.{AllByRecursion, list_all, list_any, range_with_len}
+use Rattle.std.specs.List.{AllByRecursion, range_with_len}
 use Rattle.std.proofs.lemmas.Bool.{eqb-true, eqb-false, eq-eqb, ne_eqb, or_left, or_right}
 use Rattle.ftpp_base.specs.Lists.{below, others, is_in}
 use Rattle.ftpp_base.proofs.Among.{all-append}
@@ -14,7 +14,7 @@ use Rattle.element_core.specs.Run.{Journal, Follows, IsJournal, state_at, input_
 use Rattle.element_core.specs.Syndromes.{Relays, syndromes_at}
 use Rattle.element_core.specs.Claims.{is_of_copies}
 use Rattle.whole_run.proofs.Accuracy.{Names, syndromes-named}
-use Rattle.diagnosis.specs.Suspects.{is_left_by, is_suspect, suspects_of, only_one}
+use Rattle.diagnosis.specs.Suspects.{is_suspect, suspects_of, only_one}
 use Rattle.diagnosis.specs.Runs.{still_counts, noted_since, suspects_after, faulty_before, last_faulty}
 use Rattle.diagnosis.proofs.Left.{filter-all}
 use Rattle.diagnosis_runs.specs.Laws.{FaultyIsSuspect, OnlyOneIsFaulty, AllLeftWithoutFault}

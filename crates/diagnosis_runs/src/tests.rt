@@ -1,3 +1,5 @@
+ghost use Rattle.std.specs.Prelude.{◌<◌};
+
 use config_table::{ConfigError, Group, Table};
 use diagnosis::{DiagnosisText, Suspects, diagnosis_text};
 use ftpp_base::Ne;
@@ -23,23 +25,25 @@ fn four_elements() -> Result<Table, ConfigError> {
     )
 }
 
-/// An element of four.
-fn element(number: u8) -> Result<Ne, Fail> {
-    Ok(Ne::new(number, 4).ok_or("an element of four")?)
+/// An element of four, and the last one for a greater number.
+fn element(number: u8) -> Ne
+    ensures { result < 4 }
+{
+    Ne::at(usize::from(number.min(3)))
 }
 
 /// The suspects of an element of four after these entries.
-fn suspects_after(me: u8, noted: Noted) -> Result<Suspects, Fail> {
-    let mut suspects = Suspects::all(4, element(me)?);
+fn suspects_after(me: u8, noted: Noted) -> Suspects {
+    let mut suspects = Suspects::all(4, element(me));
     for (kind, accused, other) in noted {
         suspects.note(&Syndrome {
             cycle: 0,
             kind: *kind,
-            accused: element(*accused)?,
-            other: element(*other)?,
+            accused: element(*accused),
+            other: element(*other),
         });
     }
-    Ok(suspects)
+    suspects
 }
 
 /// The lines, where there are suspects for each element of the table.
@@ -101,12 +105,12 @@ fn writes_the_lines_of_rows(rt: HostRuntime) -> Result<(), Fail> {
     let table = four_elements()?;
     for (place, (faulty, noted, lines)) in rows.iter().enumerate() {
         let suspects = [
-            suspects_after(0, noted[0])?,
-            suspects_after(1, noted[1])?,
-            suspects_after(2, noted[2])?,
-            suspects_after(3, noted[3])?,
+            suspects_after(0, noted[0]),
+            suspects_after(1, noted[1]),
+            suspects_after(2, noted[2]),
+            suspects_after(3, noted[3]),
         ];
-        let faulty = faulty.and_then(|number| Ne::new(number, 4));
+        let faulty = faulty.map(element);
         let text = lines_of(&table, faulty, &suspects).ok_or("four elements")?;
         assert_eq!(rt; text.as_slice(), lines.as_bytes(), "row {place}");
     }
