@@ -1,5 +1,5 @@
 -- An element that rejoins: the cluster rests again, and follows the run where it did before.
-use Rattle.std.proofs.Common.{◌≡◌, ◌≢◌, ℕ, true, false, ◌<◌, ◌≤◌, ◌⊎◌, List, [], ◌∷◌, ◌++◌, length, refl, ap, sym, ◌∙◌, subst, arith, inl, inr, get_or}
+use Rattle.std.proofs.Common.{◌≡◌, ◌≢◌, ℕ, true, false, ◌<◌, ◌⊎◌, List, [], ◌∷◌, ◌++◌, length, refl, ap, sym, ◌∙◌, subst, inl, inr, get_or}
 use Rattle.std.specs.Prelude.{Option, Some, None, ◌==◌, if◌then◌else◌}
 use Rattle.std.proofs.lemmas.Bool.{cases_eq, eq-eqb, ne_eqb}
 use Rattle.std.proofs.lemmas.Option.{same_Some}
@@ -10,14 +10,14 @@ use Rattle.config_table.specs.Table.{TableValue, IsValid}
 use Rattle.config_table.proofs.ValidTable.{size-valid}
 use Rattle.two_round.proofs.Agreement.{at_place}
 use Rattle.syndrome_log.specs.Log.{last_kept}
-use Rattle.element_core.specs.Processors.{ports_of, empty_ports}
-use Rattle.element_core.specs.Cycle.{State, Input, after_rejoin}
+use Rattle.element_core.specs.Processors.{empty_ports}
+use Rattle.element_core.specs.Cycle.{Input, after_rejoin}
 use Rattle.element_core.specs.Run.{Journal, AgreedState, IsJournal, agreed_state, Follows as Succeeds}
 use Rattle.element_core.specs.Element.{Kept}
-use Rattle.element_core.specs.Alone.{IsSound, part_of}
+use Rattle.element_core.specs.Alone.{part_of}
 use Rattle.element_core.proofs.AloneRunLaws.{rejoin_gives_part}
 use Rattle.element_core.specs.declared.Rejoined.{Rejoined}
-use Rattle.element_core.specs.declared.Rejoined.TheVariants.{Taken, Refused}
+use Rattle.element_core.specs.declared.Rejoined.TheVariants.{Taken}
 use Rattle.element_core.specs.ElementValue.{ElementValue, fresh, rejoined_with, state_of}
 use Rattle.element_core.specs.Rejoins.{IsRejoined, IsVotedState}
 use Rattle.element_core.proofs.CommonStates.{common_state, voted_taken}

@@ -1,8 +1,7 @@
 -- A cluster whose faulty element was asked to rejoin, by its stations.
-use Rattle.std.proofs.Common.{◌≡◌, ℕ, zero, suc, ◌<◌, List, [], ◌∷◌, length, refl, ap, sym, ◌∙◌, subst, arith, get_or}
+use Rattle.std.proofs.Common.{◌≡◌, ℕ, zero, suc, ◌<◌, List, [], ◌∷◌, length, refl, ap, sym, ◌∙◌, subst, get_or}
 use Rattle.std.specs.Prelude.{Option, Some, None}
 use Rattle.std.proofs.lemmas.List.{length-map}
-use Rattle.bit_vote.specs.Vote.{Cell}
 use Rattle.ftpp_base.specs.Lists.{change_at}
 use Rattle.element_core.specs.declared.Rejoined.{Rejoined}
 use Rattle.element_core.specs.declared.Rejoined.TheVariants.{Taken, Refused}

@@ -1,5 +1,7 @@
-use Rattle.std.proofs.Common.{length, ap, sym, subst, ◌∙◌, inl, inr, arith}
-use Rattle.cluster.specs.Stations.{AllRest}
+use Rattle.std.proofs.Common.{length, ap, sym, subst, ◌∙◌, inl, inr, arith, ◌≡◌, List, refl}
+use Rattle.cluster.specs.declared.stations.Station.{Station}
+use Rattle.cluster.specs.ClusterValue.{all_acted, all_answers}
+use Rattle.cluster.specs.Stations.{AllRest, elements_of}
 use Rattle.cluster.proofs.Written.{written}
 use Rattle.cluster.proofs.network.Network.act.Goals as goal
 
@@ -18,6 +20,17 @@ act_all-requires g c = (
   ),
 )
 
-pub returns-clause-rest : goal.returns-clause-rest
-returns-clause-rest g c =
-    subst (λ s. AllRest c.args.cycle s) (sym (written c.args.self.now.stations _ c.act_all.new.stations c.as_mut_slice.ensures.value c.act_all.auto.stations)) c.act_all.ensures.rest
+pub returns : goal.returns
+returns g c =
+    let acts = c.args.acts.now in
+    let olds : List (Station g.row.N) = c.as_mut_slice.result.now in
+    let is : olds ≡ c.args.self.now.stations.items = c.as_mut_slice.ensures.value in
+    let news = written c.args.self.now.stations olds c.act_all.new.stations is c.act_all.auto.stations in
+    record {
+      elements = ap elements_of news ∙ c.act_all.ensures.elements ∙ (λ i. all_acted (elements_of (is i)) acts);
+      answers = c.act_all.ensures.answers ∙ (λ i. all_answers (elements_of (is i)) acts);
+      rest = subst (λ s. AllRest c.args.cycle s) (sym news) c.act_all.ensures.rest;
+      count = ap length news ∙ c.act_all.auto.stations ∙ ap length is ∙ c.requires.count;
+      delivered = refl;
+      whole = c.are_acts.ensures;
+    }

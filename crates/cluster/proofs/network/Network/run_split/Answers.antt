@@ -1,4 +1,4 @@
-use Rattle.std.proofs.Common.{rules, ◌≡◌, List, length, ap, sym, subst, ◌∙◌, inl, inr, arith}
+use Rattle.std.proofs.Common.{◌≡◌, List, length, ap, sym, subst, ◌∙◌, inl, inr, arith}
 use Rattle.ftpp_base.specs.declared.element.Round.TheVariants.{A1, A2, B1, B2}
 use Rattle.std.specs.Vec.{with_items}
 use Rattle.element_core.specs.declared.Due.TheVariants.{Emit}
@@ -15,9 +15,9 @@ rounds_split-requires g c =
     let f = c.args.self.now in
     let N = g.row.N in
     let t = c.requires.tables in (
-      search rules,
+      c.type_bounds.sync-R,
       (
-        search rules,
+        c.type_bounds.sync-G,
         (
           elim c.requires.size [ inl e ↦ rw e (omega arith) | inr e ↦ rw e (omega arith) ],
           (
