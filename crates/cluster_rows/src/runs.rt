@@ -216,12 +216,12 @@ fn random_cycle(
     let a2 = random_frame(random, at, 0xa2, 138);
     let b1 = random_frame(random, at, 0xb1, 71);
     let b2 = random_frame(random, at, 0xb2, 266);
-    let to = Ne::new((*random >> 30) as u8, 4);
+    let number = (*random >> 30) as u8;
     let edits = [
-        edit(at, Some(Round::A1), to, EditKind::Send(a1)),
+        edit(at, Some(Round::A1), Ne::new(number, 4), EditKind::Send(a1)),
         edit(at, Some(Round::A2), None, EditKind::Send(a2)),
         edit(at, Some(Round::B1), None, EditKind::Send(b1)),
-        edit(at, Some(Round::B2), to, EditKind::Send(b2)),
+        edit(at, Some(Round::B2), Ne::new(number, 4), EditKind::Send(b2)),
     ];
     let case = CASES.first()?;
     let host = acts_of(case.posts, at % 5);

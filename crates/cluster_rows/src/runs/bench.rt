@@ -1,6 +1,6 @@
 //! Four elements of a table, what their processors post, and cycles of them.
 
-ghost use Rattle.std.specs.Prelude.{◌≡◌, IfSome, IsTrue, None};
+ghost use Rattle.std.specs.Prelude.{◌≡◌, ◌<◌, IfSome, IsTrue, None};
 ghost use Rattle.std.specs.List.{AllByRecursion};
 ghost use Rattle.cluster.specs.Follows.{IsActAmong};
 

@@ -110,7 +110,8 @@ fn without_an_agreed_state_nothing_changes(rt: HostRuntime) -> Result<(), Fail> 
     let element = cluster.element(Ne::at(3));
     assert_eq!(rt; (element.cycle(), element.last().is_some()), (2, true));
     assert_eq!(rt; element.table().groups().len(), 3);
-    cycle(&mut cluster, &host, &mut liar, &mut NoFault).ok_or("cycle")?;
+    let last = acts_of(DISSOLVED, 2);
+    cycle(&mut cluster, &last, &mut liar, &mut NoFault).ok_or("cycle")?;
     let journal = cluster.journal();
     assert_eq!(rt; journal.len(), 3);
     assert!(rt; !journal.rejoined(2));
