@@ -93,4 +93,3 @@ pub fn note<const N: usize>(seen: &Seen<N>, out: &mut Row<Syndrome, 64>)
     note_exchange(packets, packet_results, &sent, me, &PACKETS, cycle, out);
     note_values(table, decision, packets, packet_results, entry, cycle, out);
 }
-

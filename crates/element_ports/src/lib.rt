@@ -8,4 +8,3 @@ mod showing;
 mod updating;
 
 pub use ports::Ports;
-

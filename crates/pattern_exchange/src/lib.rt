@@ -42,4 +42,3 @@ pub fn settle<const N: usize>(x: &TwoRound<N, 32>) -> SystemPattern<N>
 {
     pattern_of(&x.results())
 }
-
