@@ -1,6 +1,6 @@
 //! The table and the script of a run.
 
-ghost use Rattle.std.specs.Prelude.{◌≡◌, ◌+◌, ◌≤◌, ◌⊎◌, [], Ok, Err, IfErr, IfOk, IfSome, IsTrue, option_copied, Some};
+ghost use Rattle.std.specs.Prelude.{◌≡◌, ◌+◌, ◌≤◌, ◌⊎◌, [], Ok, Err, IfErr, IfOk, IfSome, IsTrue, option_copied, Some, None};
 ghost use Rattle.ftpp_outside.specs.Told.{Rose, raised};
 ghost use Rattle.ftpp_outside.specs.Files.{IsLonger};
 ghost use Rattle.config_table.specs.Table.{TableValue};
@@ -33,6 +33,7 @@ fn table_for<H: Shelf, K: Sink>(
     ensures only { IfErr result IsRefusal }
     ensures memory { result ≡ Err Memory → K.written out.new ≡ K.written out.old }
     ensures write { result ≡ Err Write → Rose (K.faults out.old) (K.faults out.new) }
+    ensures unloaded { option_copied config.entry ≡ None → shelf.new ≡ shelf.old }
     ensures shelf_faults { H.faults shelf.old ≤ H.faults shelf.new }
     ensures sink_faults { K.faults out.old ≤ K.faults out.new }
 {
@@ -60,6 +61,7 @@ pub fn load_run<S: Source, H: Shelf, K: Sink>(
     ensures memory { result ≡ Err Memory → K.written out.new ≡ K.written out.old }
     ensures write { result ≡ Err Write → Rose (K.faults out.old) (K.faults out.new) }
     ensures source_faults { S.faults input.old ≤ S.faults input.new }
+    ensures unloaded { option_copied config.entry ≡ None → shelf.new ≡ shelf.old }
     ensures shelf_faults { H.faults shelf.old ≤ H.faults shelf.new }
     ensures sink_faults { K.faults out.old ≤ K.faults out.new }
 {

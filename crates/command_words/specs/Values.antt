@@ -1,5 +1,5 @@
 -- Commands without where their words lie in memory.
-use Rattle.std.specs.Prelude.{option_copied}
+use Rattle.std.specs.Prelude.{◌+◌, ◌^◌, ◌<◌, ◌≤◌, option_copied}
 use Rattle.command_words.specs.declared.commands.Command.{Command}
 use Rattle.command_words.specs.declared.commands.Command.TheVariants as C
 use Rattle.command_words.specs.Commands.{CommandValue, Run, Trace, Check, Migrate, Soak, Sweep, Make, Node, Audit, Diagnose}
@@ -15,3 +15,16 @@ command_value (C.Make start cycles) = Make start cycles
 command_value (C.Node element cycles config) = Node element cycles (option_copied config)
 command_value (C.Audit named config) = Audit named (option_copied config)
 command_value (C.Diagnose config) = Diagnose (option_copied config)
+
+-- its numbers are in their ranges
+abbrev pub IsInRange : Command → Type 0
+IsInRange (C.Run config) = Unit {0}
+IsInRange (C.Trace config) = Unit {0}
+IsInRange (C.Check config) = Unit {0}
+IsInRange (C.Migrate config) = Unit {0}
+IsInRange (C.Soak start cycles) = (1 ≤ cycles) × (cycles ≤ 100000)
+IsInRange (C.Sweep start count cycles) = (start + count ≤ 2 ^ 64) × (1 ≤ count) × (count ≤ 64) × (1 ≤ cycles) × (cycles ≤ 100000)
+IsInRange (C.Make start cycles) = (1 ≤ cycles) × (cycles ≤ 10000)
+IsInRange (C.Node element cycles config) = (element < 5) × (1 ≤ cycles) × (cycles ≤ 100000)
+IsInRange (C.Audit named config) = Unit {0}
+IsInRange (C.Diagnose config) = Unit {0}

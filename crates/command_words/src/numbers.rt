@@ -37,7 +37,8 @@ pub(crate) fn number_within(low: u64, high: u64, word: &str) -> Option<u64>
 /// The number of an element, which is one digit from 0 to 4.
 #[tactic(auto, unfolding(crate::specs::Numbers::element_of))]
 pub(crate) fn element(word: &str) -> Option<u8>
-    ensures { result ≡ element_of word.now }
+    ensures element { result ≡ element_of word.now }
+    ensures small { IfSome result (λ e. e < 5) }
 {
     match word.as_bytes() {
         [digit @ b'0'..=b'4'] => Some(*digit - b'0'),

@@ -1,8 +1,8 @@
 //! Words as commands.
 
-ghost use Rattle.std.specs.Prelude.{◌≡◌, map, string_bytes, option_map};
+ghost use Rattle.std.specs.Prelude.{◌≡◌, map, string_bytes, option_map, IfSome};
 ghost use Rattle.command_words.specs.Commands.{soak_of, sweep_of, make_of, node_of, named_of, audit_of, command_of};
-ghost use Rattle.command_words.specs.Values.{command_value};
+ghost use Rattle.command_words.specs.Values.{command_value, IsInRange};
 
 use crate::commands::Command;
 use crate::numbers::{element, number_within};
@@ -23,7 +23,8 @@ const MOST_STARTS: u64 = 64;
 /// `soak START CYCLES`.
 #[tactic(auto, unfolding(crate::specs::Commands::soak_of))]
 fn soak<'a>(words: &[String]) -> Option<Command<'a>>
-    ensures { option_map command_value result ≡ soak_of (map string_bytes words.now) }
+    ensures command { option_map command_value result ≡ soak_of (map string_bytes words.now) }
+    ensures ranges { IfSome result IsInRange }
 {
     match words {
         [start, cycles] => {
@@ -38,7 +39,8 @@ fn soak<'a>(words: &[String]) -> Option<Command<'a>>
 /// `sweep START COUNT CYCLES`.
 #[tactic(auto, unfolding(crate::specs::Commands::sweep_of))]
 fn sweep<'a>(words: &[String]) -> Option<Command<'a>>
-    ensures { option_map command_value result ≡ sweep_of (map string_bytes words.now) }
+    ensures command { option_map command_value result ≡ sweep_of (map string_bytes words.now) }
+    ensures ranges { IfSome result IsInRange }
 {
     match words {
         [start, count, cycles] => {
@@ -61,7 +63,8 @@ fn sweep<'a>(words: &[String]) -> Option<Command<'a>>
 /// `make START CYCLES`.
 #[tactic(auto, unfolding(crate::specs::Commands::make_of))]
 fn make<'a>(words: &[String]) -> Option<Command<'a>>
-    ensures { option_map command_value result ≡ make_of (map string_bytes words.now) }
+    ensures command { option_map command_value result ≡ make_of (map string_bytes words.now) }
+    ensures ranges { IfSome result IsInRange }
 {
     match words {
         [start, cycles] => {
@@ -76,7 +79,8 @@ fn make<'a>(words: &[String]) -> Option<Command<'a>>
 /// `node E CYCLES` and perhaps a configuration.
 #[tactic(auto, unfolding(crate::specs::Commands::node_of))]
 fn node(words: &[String]) -> Option<Command<'_>>
-    ensures { option_map command_value result ≡ node_of (map string_bytes words.now) }
+    ensures command { option_map command_value result ≡ node_of (map string_bytes words.now) }
+    ensures ranges { IfSome result IsInRange }
 {
     match words {
         [number, cycles, options @ ..] => {
@@ -107,7 +111,8 @@ fn named(word: &str) -> Option<Option<u8>>
 /// `audit E` or `audit none`, and perhaps a configuration.
 #[tactic(auto, unfolding(crate::specs::Commands::audit_of))]
 fn audit(words: &[String]) -> Option<Command<'_>>
-    ensures { option_map command_value result ≡ audit_of (map string_bytes words.now) }
+    ensures command { option_map command_value result ≡ audit_of (map string_bytes words.now) }
+    ensures ranges { IfSome result IsInRange }
 {
     match words {
         [word, options @ ..] => {
@@ -122,7 +127,8 @@ fn audit(words: &[String]) -> Option<Command<'_>>
 /// What the words behind the program's name ask for; None exactly where they are not lawful.
 #[tactic(auto, unfolding(crate::specs::Commands::command_of))]
 pub fn read_words(words: &[String]) -> Option<Command<'_>>
-    ensures { option_map command_value result ≡ command_of (map string_bytes words.now) }
+    ensures command { option_map command_value result ≡ command_of (map string_bytes words.now) }
+    ensures ranges { IfSome result IsInRange }
 {
     let (name, words) = words.split_first()?;
     match name.as_str() {

@@ -1,8 +1,10 @@
-//! The program: the words after its name, standard input and standard output go to the top call.
+//! The program: the words after its name, standard input, files and standard output go to the top call.
 #![tactic(auto)]
 
-use ftpp_outside::{StdSink, StdSource};
+use ftpp_base::OpenGate;
+use ftpp_outside::{StdShelf, StdSink, StdSource};
 use ftpp_top::top;
+use link_fabric::Mesh;
 use std::process::ExitCode;
 use std::rt::Env;
 use std::{env, io};
@@ -26,7 +28,17 @@ fn main(rt: HostRuntime) -> ExitCode {
         return ExitCode::from(NO_WORDS);
     };
     let mut input = StdSource::new(rt.stdin());
+    let mut shelf = StdShelf::new(&rt);
     let mut out = StdSink::new(rt.stdout());
-    let status = top(rt.alloc(), words.as_slice(), &mut input, &mut out);
+    let status = top(
+        &rt,
+        rt.alloc(),
+        words.as_slice(),
+        &mut input,
+        &mut shelf,
+        &mut Mesh,
+        &OpenGate,
+        &mut out,
+    );
     ExitCode::from(status.exit())
 }

@@ -1,12 +1,13 @@
 -- Lemmas of this crate.
-pub mod Complete
-pub mod Due
-pub mod Forms
-pub mod FourElements
-pub mod Pieces
-pub mod Plays
-pub mod Procs
-pub mod Sound
-pub mod Steps
-pub mod Sums
-pub mod Told
+pub mod Again
+pub mod Begun
+pub mod CycleOfScript
+pub mod Taken
+pub mod Lines
+pub mod Loops
+pub mod Reporting
+pub mod Ending
+pub mod Traced
+pub mod Swept
+pub mod Soaks
+pub mod Ended

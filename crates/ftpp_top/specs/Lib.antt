@@ -1,8 +1,10 @@
 -- What the clauses of this crate cite.
-pub mod Acts
-pub mod Ends
-pub mod Fields
-pub mod Run
-pub mod Script
-pub mod Tables
-pub mod Texts
+pub mod Carries
+pub mod Causes
+pub mod ClusterLaws
+pub mod Commands
+pub mod Due
+pub mod FollowsScript
+pub mod Loops
+pub mod Playing
+pub mod SoakLine

@@ -1,127 +1,212 @@
 //! The top call.
 
-ghost use Rattle.std.specs.Prelude.{◌≡◌, ◌+◌, ◌≤◌, ◌⊎◌, [], length, map, true, false, IfSome, string_bytes};
+ghost use Rattle.std.specs.Prelude.{◌≡◌, ◌+◌, ◌≤◌, ◌⊎◌, [], map, true, false, IfSome, IsTrue, None, string_bytes, option_copied, option_map, Some};
 ghost use Rattle.ftpp_outside.specs.Told.{raised, Rose};
-ghost use Rattle.ftpp_top.specs.declared.status.Status.TheVariants.{Done, Usage, Read, Write, Memory, TooLong};
-ghost use Rattle.ftpp_top.specs.Script.{script_of};
-ghost use Rattle.ftpp_top.specs.Ends.{is_run, not_lawful, too_long, refused_script, of_script, of_bytes, Ends, IsUsage, IsOfScript};
+ghost use Rattle.ftpp_outside.specs.Files.{IsLonger};
+ghost use Rattle.command_steps.specs.declared.status.Status.TheVariants.{Done, Usage, Read, Write, Memory, TooLong};
+ghost use Rattle.command_steps.specs.Ends.{IsOr};
+ghost use Rattle.command_steps.specs.Known.{Given, EndsAs};
+ghost use Rattle.command_steps.specs.Loading.{script_limit, file_limit, table_named, run_for, IsLongFile};
+ghost use Rattle.command_steps.specs.Migrating.{checked, migrated, made, IsOfOutput};
+ghost use Rattle.command_words.specs.Values.{command_value, IsInRange};
+ghost use Rattle.workload.specs.Workload.{workload};
+ghost use Rattle.ftpp_top.specs.Carries.{Carries};
+ghost use Rattle.ftpp_top.specs.Causes.{Causes};
+ghost use Rattle.ftpp_top.specs.Commands.{reported, traced, ends_by, ends_with, carried_with, asked_by, if_there, reads, loads, carries};
 
-use crate::report::refusal_text;
-use crate::run::run_script;
-use crate::script::{ScriptError, read_script};
-use crate::status::Status;
-use crate::text::TextBuf;
-use ftpp_base::NoMemory;
-use ftpp_outside::{InputError, Sink, Source, WriteFault, read_all, write_all};
+use crate::commands::run::run;
+use crate::commands::soak::soak;
+use crate::commands::sweep::sweep;
+use crate::commands::trace::trace;
+use command_steps::{Status, check, load_run, load_table, make, migrate, refuse_words};
+use command_words::{Command, read_words};
+use ftpp_base::Gate;
+use ftpp_outside::{Shelf, Sink, Source};
+use link_fabric::Fabric;
 use std::alloc::Global;
+use std::thread::Threads;
+use workload::make_script;
 
-// The most bytes of a script.
-const MOST_BYTES: usize = 8_388_608;
-
-fn is_run(words: &[String]) -> bool
-    ensures { result ≡ is_run (map string_bytes words.now) }
+/// `run`: loads the table, reads the script, and writes the report of its run.
+fn run_command<S: Source, K: Sink, H: Shelf, F: Fabric>(
+    alloc: Global,
+    config: Option<&str>,
+    input: &mut S,
+    shelf: &mut H,
+    fabric: &mut F,
+    out: &mut K,
+) -> Status
+    ensures ends { EndsAs (ends_by (run_for (H.files shelf.old) (S.left input.old) (option_copied config.entry)) (reported (F.honest fabric.old))) result (K.written out.old) (K.written out.new) }
+    ensures carried { IsTrue (F.honest fabric.old) → Carries (run_for (H.files shelf.old) (S.left input.old) (option_copied config.entry)) result (F.told fabric.old) (F.told fabric.new) }
+    ensures whole { result ≡ Done → IfSome (S.left input.new) (λ bytes. bytes ≡ []) }
+    ensures too_long { result ≡ TooLong → (S.taken input.new ≡ raised (S.taken input.old) (script_limit + 1)) ⊎ IsLongFile (H.files shelf.old) (option_copied config.entry) }
+    ensures lawful { result ≡ Usage → ⊥ }
+    ensures unloaded { option_copied config.entry ≡ None → shelf.new ≡ shelf.old }
+    ensures causes { Causes result (record { source = S.faults input.old; shelf = H.faults shelf.old; sink = K.faults out.old; written = K.written out.old }) (record { source = S.faults input.new; shelf = H.faults shelf.new; sink = K.faults out.new; written = K.written out.new }) }
 {
-    match words {
-        [word] => word.as_str() == "run",
-        _ => false,
-    }
-}
-
-fn refuse_words<K: Sink>(out: &mut K) -> Status
-    ensures ends { Ends not_lawful result (K.written out.old) (K.written out.new) }
-    ensures only { IsUsage result }
-    ensures write { result ≡ Write → Rose (K.faults out.old) (K.faults out.new) }
-    ensures faults { K.faults out.old ≤ K.faults out.new }
-{
-    match write_all(out, b"usage\n") {
-        Ok(()) => Status::Usage,
-        Err(WriteFault) => Status::Write,
-    }
-}
-
-fn refuse_length<K: Sink>(out: &mut K) -> Status
-    ensures ends { Ends too_long result (K.written out.old) (K.written out.new) }
-    ensures only { (result ≡ TooLong) ⊎ (result ≡ Write) }
-    ensures write { result ≡ Write → Rose (K.faults out.old) (K.faults out.new) }
-    ensures faults { K.faults out.old ≤ K.faults out.new }
-{
-    match write_all(out, b"too long\n") {
-        Ok(()) => Status::TooLong,
-        Err(WriteFault) => Status::Write,
-    }
-}
-
-fn refuse_script<K: Sink>(alloc: Global, line: u32, code: u8, out: &mut K) -> Status
-    ensures ends { Ends (refused_script line code) result (K.written out.old) (K.written out.new) }
-    ensures only { IsOfScript result }
-    ensures write { result ≡ Write → Rose (K.faults out.old) (K.faults out.new) }
-    ensures faults { K.faults out.old ≤ K.faults out.new }
-{
-    let mut text = match TextBuf::new(alloc) {
-        Ok(text) => text,
-        Err(NoMemory) => return Status::Memory,
+    let (table, script) = match load_run(alloc, config, input, shelf, out) {
+        Ok(parts) => parts,
+        Err(status) => return status,
     };
-    refusal_text(line, code, &mut text);
-    match write_all(out, text.bytes()) {
-        Ok(()) => Status::Script { line, code },
-        Err(WriteFault) => Status::Write,
-    }
+    run(alloc, &table, &script, fabric, out)
 }
 
-// What comes of the bytes of a script.
-#[tactic(auto, using(crate::proofs::Told::ends_played, crate::proofs::Told::ends_refused))]
-fn run_bytes<K: Sink>(alloc: Global, bytes: &[u8], out: &mut K) -> Status
-    requires { length bytes.now ≤ 8388608 }
-    ensures ends { Ends (of_script (script_of bytes.now)) result (K.written out.old) (K.written out.new) }
-    ensures only { IsOfScript result }
-    ensures write { result ≡ Write → Rose (K.faults out.old) (K.faults out.new) }
-    ensures faults { K.faults out.old ≤ K.faults out.new }
+/// `trace`: loads the table, reads the script, and writes the trace of its run.
+fn trace_command<S: Source, K: Sink, H: Shelf, F: Fabric>(
+    alloc: Global,
+    config: Option<&str>,
+    input: &mut S,
+    shelf: &mut H,
+    fabric: &mut F,
+    out: &mut K,
+) -> Status
+    ensures ends { EndsAs (ends_by (run_for (H.files shelf.old) (S.left input.old) (option_copied config.entry)) (traced (F.honest fabric.old))) result (K.written out.old) (K.written out.new) }
+    ensures carried { IsTrue (F.honest fabric.old) → Carries (run_for (H.files shelf.old) (S.left input.old) (option_copied config.entry)) result (F.told fabric.old) (F.told fabric.new) }
+    ensures whole { result ≡ Done → IfSome (S.left input.new) (λ bytes. bytes ≡ []) }
+    ensures too_long { result ≡ TooLong → (S.taken input.new ≡ raised (S.taken input.old) (script_limit + 1)) ⊎ IsLongFile (H.files shelf.old) (option_copied config.entry) }
+    ensures lawful { result ≡ Usage → ⊥ }
+    ensures unloaded { option_copied config.entry ≡ None → shelf.new ≡ shelf.old }
+    ensures causes { Causes result (record { source = S.faults input.old; shelf = H.faults shelf.old; sink = K.faults out.old; written = K.written out.old }) (record { source = S.faults input.new; shelf = H.faults shelf.new; sink = K.faults out.new; written = K.written out.new }) }
 {
-    match read_script(alloc, bytes) {
-        Err(ScriptError::Memory) => Status::Memory,
-        Err(ScriptError::At { line, code }) => refuse_script(alloc, line, code, out),
-        Ok(script) => run_script(alloc, &script, out),
+    let (table, script) = match load_run(alloc, config, input, shelf, out) {
+        Ok(parts) => parts,
+        Err(status) => return status,
+    };
+    trace(alloc, &table, &script, fabric, out)
+}
+
+/// `check`: loads a table, and writes the line on it and its printed configuration.
+fn check_command<K: Sink, H: Shelf>(alloc: Global, config: &str, shelf: &mut H, out: &mut K) -> Status
+    ensures ends { EndsAs (ends_by (table_named (H.files shelf.old) config.now) checked) result (K.written out.old) (K.written out.new) }
+    ensures too_long { result ≡ TooLong → IsLonger (H.files shelf.old) config.now file_limit }
+    ensures lawful { result ≡ Usage → ⊥ }
+    ensures causes { Causes result (record { source = 0; shelf = H.faults shelf.old; sink = K.faults out.old; written = K.written out.old }) (record { source = 0; shelf = H.faults shelf.new; sink = K.faults out.new; written = K.written out.new }) }
+{
+    match load_table(alloc, config, shelf, out) {
+        Ok(table) => check(alloc, &table, out),
+        Err(status) => status,
     }
 }
 
-/// Runs a command. With the one word `run` it reads a script from the source and writes its
-/// report, or the first line that is refused; other words are answered by `usage`.
+/// `migrate`: loads a table, and writes its printed configuration.
+fn migrate_command<K: Sink, H: Shelf>(alloc: Global, config: &str, shelf: &mut H, out: &mut K) -> Status
+    ensures ends { EndsAs (ends_by (table_named (H.files shelf.old) config.now) migrated) result (K.written out.old) (K.written out.new) }
+    ensures too_long { result ≡ TooLong → IsLonger (H.files shelf.old) config.now file_limit }
+    ensures lawful { result ≡ Usage → ⊥ }
+    ensures causes { Causes result (record { source = 0; shelf = H.faults shelf.old; sink = K.faults out.old; written = K.written out.old }) (record { source = 0; shelf = H.faults shelf.new; sink = K.faults out.new; written = K.written out.new }) }
+{
+    match load_table(alloc, config, shelf, out) {
+        Ok(table) => migrate(alloc, &table, out),
+        Err(status) => status,
+    }
+}
+
+/// `make`: writes the script of the workload of a number.
+fn make_command<K: Sink>(alloc: Global, start: u64, cycles: u32, out: &mut K) -> Status
+    requires some { 1 ≤ cycles }
+    requires few { cycles ≤ 100000 }
+    ensures ends { EndsAs (Given (made (workload start cycles))) result (K.written out.old) (K.written out.new) }
+    ensures only { IsOfOutput result }
+    ensures causes { Causes result (record { source = 0; shelf = 0; sink = K.faults out.old; written = K.written out.old }) (record { source = 0; shelf = 0; sink = K.faults out.new; written = K.written out.new }) }
+{
+    match make_script(alloc, start, cycles) {
+        Ok(script) => make(alloc, &script, out),
+        Err(_) => Status::Memory,
+    }
+}
+
+/// Carries out a command.
+#[tactic(auto, unfolding(crate::specs::Commands::ends_of, crate::specs::Commands::carried_of))]
+fn answer<R: Threads + Sync, S: Source, K: Sink, H: Shelf, F: Fabric, G: Gate>(
+    rt: &R,
+    alloc: Global,
+    command: Command<'_>,
+    input: &mut S,
+    shelf: &mut H,
+    fabric: &mut F,
+    gate: &G,
+    out: &mut K,
+) -> Status
+    requires { IsInRange command }
+    // The words, and what the shelf and the source tell, decide what is answered and written.
+    ensures told { EndsAs (ends_with (F.honest fabric.old) (H.files shelf.old) (S.left input.old) (if_there (Some (command_value command.entry)))) result (K.written out.old) (K.written out.new) }
+    // The frames that were carried are those of the run.
+    ensures carried { IsTrue (F.honest fabric.old) → Carries (carried_with (H.files shelf.old) (S.left input.old) (if_there (Some (command_value command.entry)))) result (F.told fabric.old) (F.told fabric.new) }
+
+    // Words that are not lawful are refused, and only these.
+    ensures usage { (if_there (Some (command_value command.entry))) ≡ None → IsOr Usage result }
+    ensures lawful { result ≡ Usage → (if_there (Some (command_value command.entry))) ≡ None }
+
+    // What a command does not use stays.
+    ensures unread { reads (if_there (Some (command_value command.entry))) ≡ false → input.new ≡ input.old }
+    ensures unloaded { loads (if_there (Some (command_value command.entry))) ≡ None → shelf.new ≡ shelf.old }
+    ensures uncarried { carries (if_there (Some (command_value command.entry))) ≡ false → fabric.new ≡ fabric.old }
+
+    // What is done read the source to its end.
+    ensures whole { result ≡ Done → reads (if_there (Some (command_value command.entry))) ≡ true → IfSome (S.left input.new) (λ bytes. bytes ≡ []) }
+    ensures too_long { result ≡ TooLong → (S.taken input.new ≡ raised (S.taken input.old) (script_limit + 1)) ⊎ IsLongFile (H.files shelf.old) (loads (if_there (Some (command_value command.entry)))) }
+    ensures causes { Causes result (record { source = S.faults input.old; shelf = H.faults shelf.old; sink = K.faults out.old; written = K.written out.old }) (record { source = S.faults input.new; shelf = H.faults shelf.new; sink = K.faults out.new; written = K.written out.new }) }
+{
+    match command {
+        Command::Run { config } => run_command(alloc, config, input, shelf, fabric, out),
+        Command::Trace { config } => trace_command(alloc, config, input, shelf, fabric, out),
+        Command::Check { config } => check_command(alloc, config, shelf, out),
+        Command::Migrate { config } => migrate_command(alloc, config, shelf, out),
+        Command::Soak { start, cycles } => soak(rt, alloc, start, cycles, fabric, gate, out),
+        Command::Sweep {
+            start,
+            count,
+            cycles,
+        } => sweep(rt, alloc, start, count, cycles, gate, out),
+        Command::Make { start, cycles } => make_command(alloc, start, cycles, out),
+        Command::Node { .. } | Command::Audit { .. } | Command::Diagnose { .. } => {
+            refuse_words(out)
+        }
+    }
+}
+
+/// Runs the command that the words ask for, and answers how it ended. All output and all lines of refusals go to `out`.
 ///
-/// All memory is taken before the first byte is written, and no cycle takes any.
-#[tactic(auto, using(crate::proofs::Told::told_short, crate::proofs::Told::told_long, crate::proofs::Told::told_read, crate::proofs::Told::told_memory))]
-pub fn top<S: Source, K: Sink>(
+/// The order is: the words; the configuration file; the source; the output. All memory is taken before the first byte is
+/// written, and no cycle takes any.
+pub fn top<R: Threads + Sync, S: Source, K: Sink, H: Shelf, F: Fabric, G: Gate>(
+    rt: &R,
     alloc: Global,
     words: &[String],
     input: &mut S,
+    shelf: &mut H,
+    fabric: &mut F,
+    gate: &G,
     out: &mut K,
 ) -> Status
-    // Where the source tells its bytes, they decide what is answered and written.
-    ensures told { is_run (map string_bytes words.now) ≡ true → IfSome (S.left input.old) (λ bytes. Ends (of_bytes bytes) result (K.written out.old) (K.written out.new)) }
+    // The words, and what the shelf and the source tell, decide what is answered and written.
+    ensures told { EndsAs (ends_with (F.honest fabric.old) (H.files shelf.old) (S.left input.old) (asked_by (map string_bytes words.now))) result (K.written out.old) (K.written out.new) }
+    // The frames that were carried are those of the run.
+    ensures carried { IsTrue (F.honest fabric.old) → Carries (carried_with (H.files shelf.old) (S.left input.old) (asked_by (map string_bytes words.now))) result (F.told fabric.old) (F.told fabric.new) }
 
-    // Words that are not lawful are refused, and the source is not read.
-    ensures usage { is_run (map string_bytes words.now) ≡ false → IsUsage result }
-    ensures refused { is_run (map string_bytes words.now) ≡ false → Ends not_lawful result (K.written out.old) (K.written out.new) }
-    ensures unread { is_run (map string_bytes words.now) ≡ false → input.new ≡ input.old }
-    ensures lawful { result ≡ Usage → is_run (map string_bytes words.now) ≡ false }
+    // Words that are not lawful are refused, and only these.
+    ensures usage { (asked_by (map string_bytes words.now)) ≡ None → IsOr Usage result }
+    ensures lawful { result ≡ Usage → (asked_by (map string_bytes words.now)) ≡ None }
+
+    // What a command does not use stays.
+    ensures unread { reads (asked_by (map string_bytes words.now)) ≡ false → input.new ≡ input.old }
+    ensures unloaded { loads (asked_by (map string_bytes words.now)) ≡ None → shelf.new ≡ shelf.old }
+    ensures uncarried { carries (asked_by (map string_bytes words.now)) ≡ false → fabric.new ≡ fabric.old }
 
     // What is done read the source to its end.
-    ensures whole { result ≡ Done → IfSome (S.left input.new) (λ bytes. bytes ≡ []) }
-    ensures too_long { result ≡ TooLong → S.taken input.new ≡ raised (S.taken input.old) (8388608 + 1) }
+    ensures whole { result ≡ Done → reads (asked_by (map string_bytes words.now)) ≡ true → IfSome (S.left input.new) (λ bytes. bytes ≡ []) }
+    ensures too_long { result ≡ TooLong → (S.taken input.new ≡ raised (S.taken input.old) (script_limit + 1)) ⊎ IsLongFile (H.files shelf.old) (loads (asked_by (map string_bytes words.now))) }
 
     // When faults and want of memory come.
-    ensures read { result ≡ Read → Rose (S.faults input.old) (S.faults input.new) }
+    ensures read { result ≡ Read → Rose (S.faults input.old) (S.faults input.new) ⊎ Rose (H.faults shelf.old) (H.faults shelf.new) }
     ensures write { result ≡ Write → Rose (K.faults out.old) (K.faults out.new) }
     ensures memory { result ≡ Memory → K.written out.new ≡ K.written out.old }
     ensures source_faults { S.faults input.old ≤ S.faults input.new }
+    ensures shelf_faults { H.faults shelf.old ≤ H.faults shelf.new }
     ensures sink_faults { K.faults out.old ≤ K.faults out.new }
 {
-    if !is_run(words) {
-        return refuse_words(out);
-    }
-    match read_all(alloc, input, MOST_BYTES) {
-        Err(InputError::Read) => Status::Read,
-        Err(InputError::TooLong) => refuse_length(out),
-        Err(InputError::Memory) => Status::Memory,
-        Ok(bytes) => run_bytes(alloc, bytes.as_slice(), out),
+    match read_words(words) {
+        Some(command) => answer(rt, alloc, command, input, shelf, fabric, gate, out),
+        None => refuse_words(out),
     }
 }

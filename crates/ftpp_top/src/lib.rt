@@ -1,19 +1,21 @@
-//! The top call: the words of a command, a source and a sink in, a status out.
+//! The top call (`top`): the words of a command, a source, a shelf, a fabric and a sink in, a status out.
+//!
+//! Its main clause (`told`) says from the bytes that were read which bytes are written: where `run` is done, they are the
+//! report of the run of the script in the source's bytes on the table in the file's bytes.
 #![tactic(auto)]
 
 mod call;
-mod fields;
-pub mod laws;
-mod report;
-mod run;
-mod script;
-mod status;
-mod tables;
-#[cfg(test)]
-mod tests;
-mod text;
-mod totals;
+pub mod cluster_laws;
+mod commands;
+mod due;
+mod frame_lines;
+mod playing;
+pub mod script_laws;
+mod soak_line;
+mod trials;
 
+pub use built_in_tables::{built_in_4, built_in_5};
 pub use call::top;
-pub use status::Status;
-pub use tables::built_in_4;
+pub use command_steps::Status;
+pub use trials::SoakTrial;
+pub use workload::make_script;

@@ -1,0 +1,22 @@
+use Rattle.std.proofs.Common.{◌≡◌, ◌≤◌, length}
+use Rattle.std.specs.Prelude.{IsTrue}
+use Rattle.script_text.specs.Reading.{plan_of}
+use Rattle.report_text.specs.Sums.{IsBounded}
+use Rattle.command_steps.specs.Loading.{Run}
+use Rattle.ftpp_top.specs.FollowsScript.{StandsAt}
+use Rattle.ftpp_top.specs.Playing.{IsReady, told_by}
+use Rattle.ftpp_top.specs.Loops.{IsReporting}
+use Rattle.ftpp_top.proofs.commands.run.report_cycles.Given as goal
+
+abbrev pub invariant-loop-cycle : goal.invariant-loop-cycle
+invariant-loop-cycle g l = record {
+  script : l.playing.script ≡ l.fn.playing.script;
+  cycle : length l.playing.cluster.journal ≡ l._cycle;
+  ready : IsReady g.row.N (plan_of l.playing.script.now) l.playing.cluster l.playing.acts.now l.playing.rejoins.now;
+  count : l.totals.cycles ≡ l._cycle;
+  bounded : IsBounded l.totals;
+  honest : IsTrue (g.F.Fabric.honest l.fn.fabric) → IsTrue (g.F.Fabric.honest l.fabric);
+  faults : g.K.Sink.faults l.fn.out ≤ g.K.Sink.faults l.out;
+  reporting : IsTrue (g.F.Fabric.honest l.fn.fabric) → (r : Run) → r.plan ≡ plan_of l.fn.playing.script.now → StandsAt r.table r.plan 0 l.fn.playing.cluster (told_by l.fn.playing.player)
+      → IsReporting r l._cycle l.playing.cluster (told_by l.playing.player) l.totals (g.K.Sink.written l.fn.out) (g.K.Sink.written l.out) (g.F.Fabric.told l.fn.fabric) (g.F.Fabric.told l.fabric)
+}

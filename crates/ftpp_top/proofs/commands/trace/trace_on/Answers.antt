@@ -1,0 +1,30 @@
+use Rattle.std.proofs.Common.{refl, sym, ap}
+use Rattle.script_text.specs.Reading.{plan_of}
+use Rattle.report_text.specs.PlayedRun.{trace_text}
+use Rattle.command_steps.specs.Loading.{Run}
+use Rattle.ftpp_top.proofs.Ended.{shown_whole, shown_cut}
+use Rattle.ftpp_top.proofs.commands.trace.trace_on.Goals as goal
+
+pub returns-in-Ok-trace_cycles-clause-ends : goal.returns-in-Ok-trace_cycles-clause-ends
+returns-in-Ok-trace_cycles-clause-ends g c =
+    let r : Run = record { table = c.args.table.now; plan = plan_of c.args.script.now } in
+    let e = sym (ap (λ s. plan_of s) c.in-Ok.ensures.script) in
+    (refl, shown_whole (g.F.Fabric.honest c.args.fabric.now) (trace_text r.table r.plan) (g.K.Sink.written c.args.out.now) (g.K.Sink.written c.trace_cycles.new.out) (λ h. (c.in-Ok-trace_cycles.ensures.ok h r e c.in-Ok.ensures.stands).0))
+
+pub returns-in-Ok-trace_cycles-clause-carried : goal.returns-in-Ok-trace_cycles-clause-carried
+returns-in-Ok-trace_cycles-clause-carried g c h =
+    let r : Run = record { table = c.args.table.now; plan = plan_of c.args.script.now } in
+    let e = sym (ap (λ s. plan_of s) c.in-Ok.ensures.script) in
+    (c.in-Ok-trace_cycles.ensures.ok h r e c.in-Ok.ensures.stands).1
+
+pub returns-clause-ends : goal.returns-clause-ends
+returns-clause-ends g c =
+    let r : Run = record { table = c.args.table.now; plan = plan_of c.args.script.now } in
+    let e = sym (ap (λ s. plan_of s) c.in-Ok.ensures.script) in
+    shown_cut (g.F.Fabric.honest c.args.fabric.now) (trace_text r.table r.plan) (g.K.Sink.written c.args.out.now) (g.K.Sink.written c.trace_cycles.new.out) (λ h. (c.in-Err.ensures.err h r e c.in-Ok.ensures.stands).0)
+
+pub returns-clause-carried : goal.returns-clause-carried
+returns-clause-carried g c h =
+    let r : Run = record { table = c.args.table.now; plan = plan_of c.args.script.now } in
+    let e = sym (ap (λ s. plan_of s) c.in-Ok.ensures.script) in
+    (c.in-Err.ensures.err h r e c.in-Ok.ensures.stands).1

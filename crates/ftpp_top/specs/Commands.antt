@@ -1,0 +1,143 @@
+-- From bytes to an outcome: how each command ends, by what the shelf and the source tell.
+use Rattle.std.specs.Prelude.{ℕ, Bool, List, [], ◌∷◌, slice_index, Option, Some, None, if◌then◌else◌, true, false}
+use Rattle.std.specs.List.{flat_map, range_with_len}
+use Rattle.ftpp_outside.specs.Files.{NamedBytes}
+use Rattle.built_in_tables.specs.Tables.{c5}
+use Rattle.workload.specs.Workload.{workload}
+use Rattle.command_words.specs.Commands.{CommandValue, Run as RunOf, Trace, Check, Migrate, Soak, Sweep, Make, Node, Audit, Diagnose, command_of}
+use Rattle.campaign.specs.declared.trial.Outcome.{Outcome as TrialOutcome}
+use Rattle.report_text.specs.declared.totals.Totals.{Totals}
+use Rattle.report_text.specs.PlayedRun.{report_text, trace_text, totals_played}
+use Rattle.command_steps.specs.Ends.{Outcome, Exactly, Anything, done_with, not_lawful}
+use Rattle.command_steps.specs.Known.{Known, Untold, Given, ◌>>=◌}
+use Rattle.command_steps.specs.Loading.{Run, table_named, run_for}
+use Rattle.command_steps.specs.Migrating.{checked, migrated, made}
+use Rattle.ftpp_top.specs.SoakLine.{soak_line}
+
+-- the run of the workload of a number
+abbrev pub soak_run : ℕ → ℕ → Run
+soak_run start cycles = record { table = c5; plan = workload start cycles }
+
+abbrev pub soaked : ℕ → ℕ → List ℕ
+soaked start cycles = soak_line start (totals_played c5 (workload start cycles))
+
+-- over an honest fabric this text is written; of another one nothing is known
+abbrev pub shown : Bool → List ℕ → Outcome
+shown honest text = done_with (if honest then Exactly text else Anything)
+
+abbrev pub reported : Bool → Run → Outcome
+reported honest r = shown honest (report_text r.table r.plan)
+
+abbrev pub traced : Bool → Run → Outcome
+traced honest r = shown honest (trace_text r.table r.plan)
+
+-- the outcome of a soak as a trial
+abbrev pub in_order : Totals → List ℕ
+in_order t = t.cycles ∷ t.served ∷ t.discarded ∷ t.idle ∷ t.stored ∷ t.overrun ∷ t.syndromes ∷ []
+
+-- and back
+abbrev pub of_order : List ℕ → Totals
+of_order totals = record {
+  cycles = slice_index totals 0;
+  served = slice_index totals 1;
+  discarded = slice_index totals 2;
+  idle = slice_index totals 3;
+  stored = slice_index totals 4;
+  overrun = slice_index totals 5;
+  syndromes = slice_index totals 6;
+}
+
+abbrev pub soak_outcome : ℕ → ℕ → TrialOutcome
+soak_outcome start cycles = record { start = start; totals = in_order (totals_played c5 (workload start cycles)) }
+
+-- the line of an outcome
+abbrev pub line_of : TrialOutcome → List ℕ
+line_of o = soak_line o.start (of_order o.totals)
+
+-- the lines of consecutive soaks
+abbrev pub line_from : ℕ → ℕ → List ℕ
+line_from cycles start = soaked start cycles
+
+abbrev pub swept : ℕ → ℕ → ℕ → Outcome
+swept start count cycles = done_with (Exactly (flat_map (line_from cycles) (range_with_len start count)))
+
+-- how a call ends that goes on with what a step gives
+abbrev pub ends_by : {A : Type 0} → Known A → (A → Outcome) → Known Outcome
+ends_by known end = known >>= λ x. Given (end x)
+
+-- how a command ends
+unfoldable pub ends_of : Bool → Option (List NamedBytes) → Option (List ℕ) → CommandValue → Known Outcome
+ends_of honest files left (RunOf config) = ends_by (run_for files left config) (reported honest)
+ends_of honest files left (Trace config) = ends_by (run_for files left config) (traced honest)
+ends_of honest files left (Check name) = ends_by (table_named files name) checked
+ends_of honest files left (Migrate name) = ends_by (table_named files name) migrated
+ends_of honest files left (Soak start cycles) = Given (shown honest (soaked start cycles))
+ends_of honest files left (Sweep start count cycles) = Given (swept start count cycles)
+ends_of honest files left (Make start cycles) = Given (made (workload start cycles))
+ends_of honest files left (Node element cycles config) = Untold
+ends_of honest files left (Audit named config) = Untold
+ends_of honest files left (Diagnose config) = Untold
+
+-- the run whose frames are carried over the fabric that is handed in
+unfoldable pub carried_of : Option (List NamedBytes) → Option (List ℕ) → CommandValue → Known Run
+carried_of files left (RunOf config) = run_for files left config
+carried_of files left (Trace config) = run_for files left config
+carried_of files left (Soak start cycles) = Given (soak_run start cycles)
+carried_of files left (Diagnose config) = run_for files left config
+carried_of files left (Check name) = Untold
+carried_of files left (Migrate name) = Untold
+carried_of files left (Sweep start count cycles) = Untold
+carried_of files left (Make start cycles) = Untold
+carried_of files left (Node element cycles config) = Untold
+carried_of files left (Audit named config) = Untold
+
+-- ---- words
+
+-- the commands that there are so far
+abbrev pub is_there : CommandValue → Bool
+is_there (RunOf config) = true
+is_there (Trace config) = true
+is_there (Check name) = true
+is_there (Migrate name) = true
+is_there (Soak start cycles) = true
+is_there (Sweep start count cycles) = true
+is_there (Make start cycles) = true
+is_there (Node element cycles config) = false
+is_there (Audit named config) = false
+is_there (Diagnose config) = false
+
+abbrev pub if_there : Option CommandValue → Option CommandValue
+if_there None = None
+if_there (Some command) = if is_there command then Some command else None
+
+-- what the words ask for, None exactly where they are not lawful
+abbrev pub asked_by : List (List ℕ) → Option CommandValue
+asked_by words = if_there (command_of words)
+
+-- how a call with such words ends
+abbrev pub ends_with : Bool → Option (List NamedBytes) → Option (List ℕ) → Option CommandValue → Known Outcome
+ends_with honest files left None = Given not_lawful
+ends_with honest files left (Some command) = ends_of honest files left command
+
+-- whether a command reads the source, loads a file, or carries frames over the fabric that is handed in
+abbrev pub reads : Option CommandValue → Bool
+reads (Some (RunOf config)) = true
+reads (Some (Trace config)) = true
+reads _ = false
+
+abbrev pub loads : Option CommandValue → Option (List ℕ)
+loads (Some (RunOf config)) = config
+loads (Some (Trace config)) = config
+loads (Some (Check name)) = Some name
+loads (Some (Migrate name)) = Some name
+loads _ = None
+
+abbrev pub carries : Option CommandValue → Bool
+carries (Some (RunOf config)) = true
+carries (Some (Trace config)) = true
+carries (Some (Soak start cycles)) = true
+carries _ = false
+
+abbrev pub carried_with : Option (List NamedBytes) → Option (List ℕ) → Option CommandValue → Known Run
+carried_with files left None = Untold
+carried_with files left (Some command) = carried_of files left command

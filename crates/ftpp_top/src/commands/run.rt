@@ -1,0 +1,154 @@
+//! `run`: the report of a script.
+
+ghost use Rattle.std.specs.Prelude.{◌≡◌, ℕ, suc, ◌+◌, ◌≤◌, ◌⊎◌, List, Option, length, OnOk, OnErr, IsTrue};
+ghost use Rattle.link_fabric.specs.declared.fabrics.Carried.{Carried};
+ghost use Rattle.report_text.specs.Lines.{end_line};
+ghost use Rattle.report_text.specs.Sums.{IsBounded};
+ghost use Rattle.ftpp_top.specs.Loops.{IsReporting};
+ghost use Rattle.fault_script.specs.Edited.{never_fall};
+ghost use Rattle.ftpp_outside.specs.Told.{Rose, Adds};
+ghost use Rattle.script_text.specs.Reading.{plan_of};
+ghost use Rattle.script_text.specs.Playable.{IsPlayable};
+ghost use Rattle.command_steps.specs.declared.status.Status.TheVariants.{Write};
+ghost use Rattle.command_steps.specs.Ends.{Ends, AddsPrefix};
+ghost use Rattle.command_steps.specs.Migrating.{IsOfOutput};
+ghost use Rattle.cluster.specs.Carrying.{TellsMore};
+ghost use Rattle.report_text.specs.PlayedRun.{report_text, frames_played};
+ghost use Rattle.command_steps.specs.Loading.{Run};
+ghost use Rattle.ftpp_top.specs.FollowsScript.{StandsAt};
+ghost use Rattle.ftpp_top.specs.Playing.{IsReady, told_by};
+ghost use Rattle.ftpp_top.specs.Carries.{CarriesRun, CarriesSome};
+ghost use Rattle.ftpp_top.specs.Commands.{reported};
+
+use crate::playing::Playing;
+use command_steps::Status;
+use config_table::Table;
+use ftpp_outside::{Sink, WriteFault, write_all};
+use link_fabric::Fabric;
+use report_text::{TextBuf, Totals, cycle_text, end_text};
+use script_text::Script;
+use std::alloc::Global;
+
+/// Plays the next cycle, and writes its text.
+fn report_cycle<const N: usize, F: Fabric, K: Sink>(
+    playing: &mut Playing<'_, N>,
+    totals: &mut Totals,
+    fabric: &mut F,
+    text: &mut TextBuf,
+    out: &mut K,
+) -> Result<(), WriteFault>
+    requires size { (N ≡ 4) ⊎ (N ≡ 5) }
+    requires ready { IsReady N (plan_of playing.old.script.now) playing.old.cluster playing.old.acts.now playing.old.rejoins.now }
+    requires more { 1 ≤ playing.old.cluster.remaining }
+    requires count { totals.old.cycles ≡ length playing.old.cluster.journal }
+    requires bounded { IsBounded totals.old }
+    ensures script { playing.new.script ≡ playing.old.script }
+    ensures cycle { length playing.new.cluster.journal ≡ length playing.old.cluster.journal + 1 }
+    ensures ready { IsReady N (plan_of playing.new.script.now) playing.new.cluster playing.new.acts.now playing.new.rejoins.now }
+    ensures count { totals.new.cycles ≡ length playing.new.cluster.journal }
+    ensures bounded { IsBounded totals.new }
+    ensures honest { IsTrue (F.honest fabric.old) → IsTrue (F.honest fabric.new) }
+    ensures ok { IsTrue (F.honest fabric.old) → (r : Run) (first : Option (List ℕ)) (before : Option (List Carried)) → r.plan ≡ plan_of playing.old.script.now
+        → IsReporting r (length playing.old.cluster.journal) playing.old.cluster (told_by playing.old.player) totals.old first (K.written out.old) before (F.told fabric.old)
+        → OnOk result (IsReporting r (suc (length playing.old.cluster.journal)) playing.new.cluster (told_by playing.new.player) totals.new first (K.written out.new) before (F.told fabric.new)) }
+    ensures err { IsTrue (F.honest fabric.old) → (r : Run) (first : Option (List ℕ)) (before : Option (List Carried)) → r.plan ≡ plan_of playing.old.script.now
+        → IsReporting r (length playing.old.cluster.journal) playing.old.cluster (told_by playing.old.player) totals.old first (K.written out.old) before (F.told fabric.old)
+        → OnErr result (AddsPrefix first (report_text r.table r.plan) (K.written out.new) × CarriesSome r before (F.told fabric.new)) }
+    ensures fault { OnErr result (Rose (K.faults out.old) (K.faults out.new)) }
+    ensures faults { K.faults out.old ≤ K.faults out.new }
+{
+    let played = playing.next(fabric);
+    totals.add(&played.report);
+    text.clear();
+    cycle_text(played.rejoin, &played.acts, &played.report, text);
+    write_all(out, text.bytes())
+}
+
+/// Writes the line of the totals.
+fn report_end<K: Sink>(totals: &Totals, text: &mut TextBuf, out: &mut K) -> Result<(), WriteFault>
+    ensures ok { OnOk result (Adds (K.written out.old) (end_line totals.now) (K.written out.new)) }
+    ensures prefix { OnErr result (AddsPrefix (K.written out.old) (end_line totals.now) (K.written out.new)) }
+    ensures fault { OnErr result (Rose (K.faults out.old) (K.faults out.new)) }
+    ensures faults { K.faults out.old ≤ K.faults out.new }
+{
+    text.clear();
+    end_text(totals, text);
+    write_all(out, text.bytes())
+}
+
+/// Plays all cycles, and writes the text of each and the totals.
+fn report_cycles<const N: usize, F: Fabric, K: Sink>(
+    playing: &mut Playing<'_, N>,
+    fabric: &mut F,
+    text: &mut TextBuf,
+    out: &mut K,
+) -> Result<(), WriteFault>
+    requires size { (N ≡ 4) ⊎ (N ≡ 5) }
+    requires start { length playing.old.cluster.journal ≡ 0 }
+    requires ready { IsReady N (plan_of playing.old.script.now) playing.old.cluster playing.old.acts.now playing.old.rejoins.now }
+    ensures ok { IsTrue (F.honest fabric.old) → (r : Run) → r.plan ≡ plan_of playing.old.script.now → StandsAt r.table r.plan 0 playing.old.cluster (told_by playing.old.player)
+        → OnOk result (Adds (K.written out.old) (report_text r.table r.plan) (K.written out.new) × TellsMore (F.told fabric.old) (frames_played r.table r.plan) (F.told fabric.new)) }
+    ensures err { IsTrue (F.honest fabric.old) → (r : Run) → r.plan ≡ plan_of playing.old.script.now → StandsAt r.table r.plan 0 playing.old.cluster (told_by playing.old.player)
+        → OnErr result (AddsPrefix (K.written out.old) (report_text r.table r.plan) (K.written out.new) × CarriesSome r (F.told fabric.old) (F.told fabric.new)) }
+    ensures fault { OnErr result (Rose (K.faults out.old) (K.faults out.new)) }
+    ensures faults { K.faults out.old ≤ K.faults out.new }
+{
+    let mut totals = Totals::zero();
+    for _cycle in 0..playing.script.cycles {
+        report_cycle(playing, &mut totals, fabric, text, out)?;
+    }
+    report_end(&totals, text, out)
+}
+
+/// Runs a script on a table of `N` elements, and writes its report.
+fn run_on<const N: usize, F: Fabric, K: Sink>(
+    alloc: Global,
+    table: &Table,
+    script: &Script,
+    fabric: &mut F,
+    out: &mut K,
+) -> Status
+    requires size { (N ≡ 4) ⊎ (N ≡ 5) }
+    requires elements { table.now.n ≡ N }
+    requires playable { IsPlayable N (plan_of script.now) }
+    requires edits { IsTrue (never_fall 0 script.now.edits.items) }
+    ensures ends { Ends (reported (F.honest fabric.old) (record { table = table.now; plan = plan_of script.now })) result (K.written out.old) (K.written out.new) }
+    ensures carried { IsTrue (F.honest fabric.old) → CarriesRun (record { table = table.now; plan = plan_of script.now }) result (F.told fabric.old) (F.told fabric.new) }
+    ensures only { IsOfOutput result }
+    ensures write { result ≡ Write → Rose (K.faults out.old) (K.faults out.new) }
+    ensures faults { K.faults out.old ≤ K.faults out.new }
+{
+    let Ok(mut playing) = Playing::<N>::new(alloc, table, script) else {
+        return Status::Memory;
+    };
+    let Ok(mut text) = TextBuf::new(alloc) else {
+        return Status::Memory;
+    };
+    match report_cycles(&mut playing, fabric, &mut text, out) {
+        Ok(()) => Status::Done,
+        Err(WriteFault) => Status::Write,
+    }
+}
+
+/// Runs a script, and writes its report: one piece a cycle, and one for the totals.
+pub(crate) fn run<F: Fabric, K: Sink>(
+    alloc: Global,
+    table: &Table,
+    script: &Script,
+    fabric: &mut F,
+    out: &mut K,
+) -> Status
+    requires playable { IsPlayable table.now.n (plan_of script.now) }
+    requires edits { IsTrue (never_fall 0 script.now.edits.items) }
+    ensures ends { Ends (reported (F.honest fabric.old) (record { table = table.now; plan = plan_of script.now })) result (K.written out.old) (K.written out.new) }
+    ensures carried { IsTrue (F.honest fabric.old) → CarriesRun (record { table = table.now; plan = plan_of script.now }) result (F.told fabric.old) (F.told fabric.new) }
+    ensures only { IsOfOutput result }
+    ensures write { result ≡ Write → Rose (K.faults out.old) (K.faults out.new) }
+    ensures faults { K.faults out.old ≤ K.faults out.new }
+{
+    if table.n() == 4 {
+        run_on::<4, F, K>(alloc, table, script, fabric, out)
+    } else {
+        run_on::<5, F, K>(alloc, table, script, fabric, out)
+    }
+}

@@ -1,5 +1,0 @@
-pub mod Mapped
-pub mod Oldest
-pub mod Seats
-pub mod Elements
-pub mod Vids
