@@ -34,8 +34,8 @@ use Rattle.ftpp_top.proofs.CycleOfScript.{cycles_of_script}
 -- ---- the acts are among those of n elements
 
 act_among : (n : ℕ) (entry : ℕ × Act) → ActIsThere n entry → IsActAmong n entry.1
-act_among n (c , Read p) h = record { there = h.0; port = h.1 }
-act_among n (c , Post p d x) h = record { there = h.0; port = h.1 }
+act_among n (c, Read p) h = record { there = h.0; port = h.1 }
+act_among n (c, Post p d x) h = record { there = h.0; port = h.1 }
 
 all_among : (n : ℕ) (acts : List (ℕ × Act)) (c : ℕ) → AllByRecursion (ActIsThere n) acts → AllByRecursion (IsActAmong n) (acts_in acts c)
 all_among n [] c h = tt

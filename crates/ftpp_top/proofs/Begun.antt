@@ -137,19 +137,19 @@ pub rejoins_as : (old new : ClusterValue) (ne : ℕ) (asked next : Option ℕ) (
 rejoins_as old new ne asked next answer f e h = subst (λ (x : Option ℕ). RejoinsAt old ne x answer new) e (h ne f)
 
 pub same_first : (old new : ClusterValue) (ne : ℕ) (next : Option ℕ) (answer : Rejoined) → RejoinsAt old ne next answer new → new.first ≡ old.first
-same_first old new ne next Taken (element , is , same) = ap (λ c. c.first) same
-same_first old new ne next Refused (is , same) = ap (λ c. c.first) same
+same_first old new ne next Taken (element, is, same) = ap (λ c. c.first) same
+same_first old new ne next Refused (is, same) = ap (λ c. c.first) same
 
 pub same_journal : (old new : ClusterValue) (ne : ℕ) (next : Option ℕ) (answer : Rejoined) → RejoinsAt old ne next answer new → new.journal ≡ old.journal
-same_journal old new ne next Taken (element , is , same) = ap (λ c. c.journal) same
-same_journal old new ne next Refused (is , same) = ap (λ c. c.journal) same
+same_journal old new ne next Taken (element, is, same) = ap (λ c. c.journal) same
+same_journal old new ne next Refused (is, same) = ap (λ c. c.journal) same
 
 some_there : (x : Option ℕ) (ne : ℕ) → x ≡ Some ne → IsSome x
 some_there x ne e = rw e refl
 
 pub begun_rejoined : (n : ℕ) (plan : Plan) (old new : ClusterValue) (acts : List (ℕ × Act)) (e : ℕ × Option ℕ) (later : List (ℕ × Option ℕ)) (ne : ℕ) (answer : Rejoined) → IsReady n plan old acts (e ∷ later) → 1 ≤ old.remaining
     → e.0 ≡ length old.journal → old.faulty ≡ Some ne → RejoinsAt old ne e.1 answer new → IsBegun n plan new acts later
-begun_rejoined n plan old new acts e later ne Taken h m due f (element , is , same) =
+begun_rejoined n plan old new acts e later ne Taken h m due f (element, is, same) =
     rw same (record {
       playable = h.playable;
       elements = h.elements;
@@ -165,7 +165,7 @@ begun_rejoined n plan old new acts e later ne Taken h m due f (element , is , sa
       there = λ s. s;
       below = next_below n plan old acts e later h;
     })
-begun_rejoined n plan old new acts e later ne Refused h m due f (is , same) =
+begun_rejoined n plan old new acts e later ne Refused h m due f (is, same) =
     rw same (record {
       playable = h.playable;
       elements = h.elements;
@@ -193,5 +193,5 @@ run_rejoined n plan old new acts e later ne answer table told h due f rejoins ta
     let below : (m : ℕ) → e.1 ≡ Some m → m < old.first.n = λ m g. subst (λ (x : ℕ). m < x) (sym h.elements) (next_below n plan old acts e later h m g) in (
       follows_rejoined table plan k ne e.1 old new told here s f (subst (λ (a : Rejoined). RejoinsAt old ne e.1 a new) is_taken rejoins) (follows s.follows) below,
       ap (λ (a : Rejoined). Some (ne, a)) is_taken
-      ∙ sym (ap (λ next. taken_by (rejoined_by before.faulty next)) (ap (next_at plan) (standing_cycle table plan k) ∙ here) ∙ ap taken_by (sym s.faulty_then ∙ f)),
+          ∙ sym (ap (λ next. taken_by (rejoined_by before.faulty next)) (ap (next_at plan) (standing_cycle table plan k) ∙ here) ∙ ap taken_by (sym s.faulty_then ∙ f)),
     )

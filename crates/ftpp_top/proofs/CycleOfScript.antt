@@ -260,7 +260,7 @@ follows_as_it_stands table plan k c told none s =
     }
 
 pub follows_rejoined : FollowsRejoined
-follows_rejoined table plan k ne next old new told here s f (e , is , same) follows below =
+follows_rejoined table plan k ne next old new told here s f (e, is, same) follows below =
     let before = standing_at table plan k in
     let asked : next_at plan before.state.cycle ≡ Some next = ap (next_at plan) (standing_cycle table plan k) ∙ here in
     let first : new.first ≡ old.first = ap (λ c. c.first) same in

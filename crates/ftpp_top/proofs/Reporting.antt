@@ -134,9 +134,9 @@ pub summing_ends : (r : Run) (k : ℕ) (c : ClusterValue) (told : Told) (t : Tot
     → (t ≡ totals_played r.table r.plan) × TellsMore before (frames_played r.table r.plan) after
 unfolding totals_played
 summing_ends r k c told t before after e i = (
-      i.totals ∙ ap (totals_below r.table r.plan) e,
-      subst (λ (xs : List Carried). TellsMore before xs after) (ap (frames_below r) e ∙ sym (frames_are r)) i.along.carried,
-    )
+  i.totals ∙ ap (totals_below r.table r.plan) e,
+  subst (λ (xs : List Carried). TellsMore before xs after) (ap (frames_below r) e ∙ sym (frames_are r)) i.along.carried,
+)
 
 -- ---- the trace
 
@@ -163,6 +163,6 @@ tracing_cut {n} r k c d told after old mid new before between later asked row re
 pub tracing_ends : (r : Run) (k : ℕ) (c : ClusterValue) (told : Told) (old new : Option (List ℕ)) (before after : Option (List Carried)) → k ≡ r.plan.cycles → IsAlong r (trace_at r) k c told old new before after
     → Adds old (trace_text r.table r.plan) new × TellsMore before (frames_played r.table r.plan) after
 tracing_ends r k c told old new before after e i = (
-      subst (λ (xs : List ℕ). Adds old xs new) (ap (text_below (trace_at r)) e ∙ sym (trace_is r)) i.written,
-      subst (λ (xs : List Carried). TellsMore before xs after) (ap (frames_below r) e ∙ sym (frames_are r)) i.carried,
-    )
+  subst (λ (xs : List ℕ). Adds old xs new) (ap (text_below (trace_at r)) e ∙ sym (trace_is r)) i.written,
+  subst (λ (xs : List Carried). TellsMore before xs after) (ap (frames_below r) e ∙ sym (frames_are r)) i.carried,
+)

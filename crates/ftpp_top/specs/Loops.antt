@@ -36,7 +36,6 @@ pub record IsReporting (r : Run) (k : ℕ) (c : ClusterValue) (told : Told) (t :
   pub along : IsAlong r (lines_at r.table r.plan) k c told old new before after
   pub totals : t ≡ totals_below r.table r.plan k
 
-
 pub record IsSumming (r : Run) (k : ℕ) (c : ClusterValue) (told : Told) (t : Totals) (before after : Option (List Carried)) : Type 0 where
   pub along : IsAlong r no_lines k c told None None before after
   pub totals : t ≡ totals_below r.table r.plan k

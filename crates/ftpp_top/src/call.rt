@@ -76,7 +76,12 @@ fn trace_command<S: Source, K: Sink, H: Shelf, F: Fabric>(
 }
 
 /// `check`: loads a table, and writes the line on it and its printed configuration.
-fn check_command<K: Sink, H: Shelf>(alloc: Global, config: &str, shelf: &mut H, out: &mut K) -> Status
+fn check_command<K: Sink, H: Shelf>(
+    alloc: Global,
+    config: &str,
+    shelf: &mut H,
+    out: &mut K,
+) -> Status
     ensures ends { EndsAs (ends_by (table_named (H.files shelf.old) config.now) checked) result (K.written out.old) (K.written out.new) }
     ensures too_long { result ≡ TooLong → IsLonger (H.files shelf.old) config.now file_limit }
     ensures lawful { result ≡ Usage → ⊥ }
@@ -89,7 +94,12 @@ fn check_command<K: Sink, H: Shelf>(alloc: Global, config: &str, shelf: &mut H, 
 }
 
 /// `migrate`: loads a table, and writes its printed configuration.
-fn migrate_command<K: Sink, H: Shelf>(alloc: Global, config: &str, shelf: &mut H, out: &mut K) -> Status
+fn migrate_command<K: Sink, H: Shelf>(
+    alloc: Global,
+    config: &str,
+    shelf: &mut H,
+    out: &mut K,
+) -> Status
     ensures ends { EndsAs (ends_by (table_named (H.files shelf.old) config.now) migrated) result (K.written out.old) (K.written out.new) }
     ensures too_long { result ≡ TooLong → IsLonger (H.files shelf.old) config.now file_limit }
     ensures lawful { result ≡ Usage → ⊥ }

@@ -11,13 +11,7 @@ use ftpp_base::{Ne, Round, Slot};
 use report_text::{TextBuf, trace_text};
 
 /// The line of one frame, and none from an element to itself.
-fn frame_line<const N: usize>(
-    cluster: &Cluster<N>,
-    at: Slot,
-    from: Ne,
-    to: Ne,
-    text: &mut TextBuf,
-)
+fn frame_line<const N: usize>(cluster: &Cluster<N>, at: Slot, from: Ne, to: Ne, text: &mut TextBuf)
     requires from { from < N }
     requires to { to < N }
     requires cycle { at.cycle < 100000 }

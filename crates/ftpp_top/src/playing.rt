@@ -113,7 +113,11 @@ fn asks<const N: usize>(script: &Script)
 
 impl<'a, const N: usize> Playing<'a, N> {
     /// Before the first cycle. It takes all memory that the cycles need.
-    pub(crate) fn new(alloc: Global, table: &Table, script: &'a Script) -> Result<Playing<'a, N>, NoMemory>
+    pub(crate) fn new(
+        alloc: Global,
+        table: &Table,
+        script: &'a Script,
+    ) -> Result<Playing<'a, N>, NoMemory>
         requires size { (N ≡ 4) ⊎ (N ≡ 5) }
         requires elements { table.now.n ≡ N }
         requires playable { IsPlayable N (plan_of script.now) }
@@ -245,14 +249,7 @@ impl<'a, const N: usize> Playing<'a, N> {
     {
         let rejoin = self.rejoin();
         let acts = self.take_acts();
-        let report = step_split(
-            rt,
-            &mut self.cluster,
-            &acts,
-            fabric,
-            &mut self.player,
-            gate,
-        );
+        let report = step_split(rt, &mut self.cluster, &acts, fabric, &mut self.player, gate);
         PlayedCycle {
             rejoin,
             acts,

@@ -17,5 +17,5 @@ invariant-loop-cycle g l = record {
   bounded : IsBounded l.totals;
   honest : IsTrue (g.F.Fabric.honest l.fn.fabric) → IsTrue (g.F.Fabric.honest l.fabric);
   summing : IsTrue (g.F.Fabric.honest l.fn.fabric) → (r : Run) → r.plan ≡ plan_of l.fn.playing.script.now → StandsAt r.table r.plan 0 l.fn.playing.cluster (told_by l.fn.playing.player)
-      → IsSumming r l._cycle l.playing.cluster (told_by l.playing.player) l.totals (g.F.Fabric.told l.fn.fabric) (g.F.Fabric.told l.fabric)
+      → IsSumming r l._cycle l.playing.cluster (told_by l.playing.player) l.totals (g.F.Fabric.told l.fn.fabric) (g.F.Fabric.told l.fabric);
 }

@@ -33,7 +33,7 @@ loop-cycle-preserved g c =
       faults = omega (arith, i.faults, ensures.faults);
       along = λ honest r e stands.
           let same = e ∙ sym (ap (λ x. plan_of x.now) i.script) in
-          let before = along_as r (trace_at r) c.loop-cycle._cycle (length l.cluster.journal) l.cluster (told_by l.player)  (g.K.Sink.written c.args.out.now) (g.K.Sink.written c.loop-cycle.out) (g.F.Fabric.told c.args.fabric.now) (g.F.Fabric.told c.loop-cycle.fabric) (sym i.cycle) (i.along honest r e stands) in
+          let before = along_as r (trace_at r) c.loop-cycle._cycle (length l.cluster.journal) l.cluster (told_by l.player) (g.K.Sink.written c.args.out.now) (g.K.Sink.written c.loop-cycle.out) (g.F.Fabric.told c.args.fabric.now) (g.F.Fabric.told c.loop-cycle.fabric) (sym i.cycle) (i.along honest r e stands) in
           along_as r (trace_at r) (suc (length l.cluster.journal)) (c.loop-cycle._cycle + 1) n.cluster (told_by n.player) (g.K.Sink.written c.args.out.now) (g.K.Sink.written c.trace_cycle.new.out) (g.F.Fabric.told c.args.fabric.now) (g.F.Fabric.told c.trace_cycle.new.fabric) (omega (arith, i.cycle))
           (ensures.ok (i.honest honest) r (g.K.Sink.written c.args.out.now) (g.F.Fabric.told c.args.fabric.now) same before);
     }
@@ -43,7 +43,7 @@ returns-in_err-trace_cycle-clause-err g c honest r e stands =
     let i = c.loop-cycle.invariant in
     let l = c.loop-cycle.playing in
     let same = e ∙ sym (ap (λ x. plan_of x.now) i.script) in
-    let before = along_as r (trace_at r) c.loop-cycle._cycle (length l.cluster.journal) l.cluster (told_by l.player)  (g.K.Sink.written c.args.out.now) (g.K.Sink.written c.loop-cycle.out) (g.F.Fabric.told c.args.fabric.now) (g.F.Fabric.told c.loop-cycle.fabric) (sym i.cycle) (i.along honest r e stands) in
+    let before = along_as r (trace_at r) c.loop-cycle._cycle (length l.cluster.journal) l.cluster (told_by l.player) (g.K.Sink.written c.args.out.now) (g.K.Sink.written c.loop-cycle.out) (g.F.Fabric.told c.args.fabric.now) (g.F.Fabric.told c.loop-cycle.fabric) (sym i.cycle) (i.along honest r e stands) in
     err_always c.from_residual.result _ (c.in_err-trace_cycle.ensures.err (i.honest honest) r (g.K.Sink.written c.args.out.now) (g.F.Fabric.told c.args.fabric.now) same before)
 
 pub returns-clause-ok : goal.returns-clause-ok

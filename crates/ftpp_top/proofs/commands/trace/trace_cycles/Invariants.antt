@@ -15,5 +15,5 @@ invariant-loop-cycle g l = record {
   honest : IsTrue (g.F.Fabric.honest l.fn.fabric) → IsTrue (g.F.Fabric.honest l.fabric);
   faults : g.K.Sink.faults l.fn.out ≤ g.K.Sink.faults l.out;
   along : IsTrue (g.F.Fabric.honest l.fn.fabric) → (r : Run) → r.plan ≡ plan_of l.fn.playing.script.now → StandsAt r.table r.plan 0 l.fn.playing.cluster (told_by l.fn.playing.player)
-      → IsAlong r (trace_at r) l._cycle l.playing.cluster (told_by l.playing.player) (g.K.Sink.written l.fn.out) (g.K.Sink.written l.out) (g.F.Fabric.told l.fn.fabric) (g.F.Fabric.told l.fabric)
+      → IsAlong r (trace_at r) l._cycle l.playing.cluster (told_by l.playing.player) (g.K.Sink.written l.fn.out) (g.K.Sink.written l.out) (g.F.Fabric.told l.fn.fabric) (g.F.Fabric.told l.fabric);
 }
