@@ -22,7 +22,7 @@ fn frame_line<const N: usize>(cluster: &Cluster<N>, at: Slot, from: Ne, to: Ne, 
 {
     if from.index() != to.index() {
         let frame = cluster.carried(at.round, from, to);
-        trace_text(at.cycle, frame, at.round, from, to, text);
+        trace_text::<N>(at.cycle, frame, at.round, from, to, text);
     }
 }
 

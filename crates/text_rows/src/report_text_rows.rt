@@ -34,10 +34,10 @@ fn frames_and_the_fullest_cycle(rt: HostRuntime) -> Result<(), Fail> {
     let from = Ne::new(2, 5).ok_or("an element")?;
     let to = Ne::new(4, 5).ok_or("an element")?;
     let mut frame = FrameBuf::new();
-    trace_text(12, &frame, Round::B1, from, to, &mut out);
+    trace_text::<5>(12, &frame, Round::B1, from, to, &mut out);
     frame.try_push(0x0f).ok().ok_or("room")?;
     frame.try_push(0xa0).ok().ok_or("room")?;
-    trace_text(99_999, &frame, Round::A2, to, from, &mut out);
+    trace_text::<5>(99_999, &frame, Round::A2, to, from, &mut out);
     assert_eq!(rt;
         out.bytes(),
         b"frame 12 B1 2 4 -\nframe 99999 A2 4 2 0fa0\n".as_slice()
