@@ -25,11 +25,12 @@ pub struct Mailbox {
 fn empty() -> ArrayVec<FrameBuf, 4>
     ensures { length result.items ≡ 4 }
 {
-    let mut rows = ArrayVec::new();
-    for _ in 0..4 {
-        rows.push(FrameBuf::new());
-    }
-    rows
+    ArrayVec::from([
+        FrameBuf::new(),
+        FrameBuf::new(),
+        FrameBuf::new(),
+        FrameBuf::new(),
+    ])
 }
 
 impl Mailbox {

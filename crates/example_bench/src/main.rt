@@ -40,7 +40,9 @@ fn show(rt: &impl Print, number: usize, record: &CycleRecord<4>) -> io::Result<(
     match &record.decision {
         Decision::Exchange(service) => {
             let (from, to, packet) = (service.vid, service.desc.dest, text(&record.packet));
-            println!(rt; "element {number}: group {from} to group {to}, packet {packet}, {notes} notes")
+            println!(rt;
+                "element {number}: group {from} to group {to}, packet {packet}, {notes} notes"
+            )
         }
         Decision::Discard { vid, .. } => {
             println!(rt; "element {number}: request of group {vid} discarded, {notes} notes")
