@@ -9,6 +9,6 @@ mod lines;
 mod masks;
 mod suspects;
 
-pub use lines::{DiagnosisText, ROOM, diagnosis_text};
+pub use lines::{DiagnosisText, ROOM, diagnosis_text, least};
 pub use masks::proposals;
 pub use suspects::Suspects;

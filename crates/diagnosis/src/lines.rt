@@ -31,7 +31,7 @@ pub fn diagnosis_text(table: &Table, faulty: Option<Ne>, suspects: &[Suspects]) 
     prove!(suspects.len() == usize::from(n));
     let mut out = DiagnosisText::new();
     suspects_lines(&faulty, suspects, &mut out);
-    mask_lines(table, &suspects[least(&faulty)], &mut out);
+    mask_lines(table, &suspects[least(&faulty).index()], &mut out);
     out
 }
 
@@ -46,11 +46,11 @@ fn mask_lines(table: &Table, suspects: &Suspects, out: &mut DiagnosisText)
 }
 
 /// The least element that is not faulty.
-fn least(faulty: &Option<Ne>) -> usize
+pub fn least(faulty: &Option<Ne>) -> Ne
     ensures number { result ≡ least faulty.now }
     ensures small { result ≤ 1 }
 {
-    if is_faulty(faulty, 0) { 1 } else { 0 }
+    Ne::at(if is_faulty(faulty, 0) { 1 } else { 0 })
 }
 
 /// Whether this element is the faulty one.

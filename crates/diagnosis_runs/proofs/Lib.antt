@@ -1,1 +1,2 @@
 pub mod NotedInRuns
+pub mod PlayedRuns

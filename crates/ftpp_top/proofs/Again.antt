@@ -134,6 +134,8 @@ cycle_of {n} table plan old mid new row asked report told after begun same its n
     } in
     let done = cycles_of_script n table plan k mid row new report told after follows runs in (
       record {
+        begins = (begun s).1;
+        says = done.0.says;
         text = (λ i. cycle_lines ((begun s).1 i) row (report_told report)) ∙ done.0.text;
         totals = done.0.totals;
         frames = done.0.frames;

@@ -204,6 +204,7 @@ module _ {N : ℕ} (table : TableValue) (plan : Plan) (k : ℕ) (old : ClusterVa
 
   cycle_of_script : IsCycleOfScript table plan k acts new report
   cycle_of_script = record {
+    says = says_same;
     text = (λ i. cycle_lines (rejoin_played plan before) (r.its_acts i) (report_told report))
         ∙ prints_alike (rejoin_played plan before) (acts_at plan k) (report_told report) (report_at table plan k) two_rows says_same;
     totals = λ t. adds_alike t (report_told report) (report_at table plan k) two_rows says_same;

@@ -2,6 +2,7 @@
 pub mod Again
 pub mod Begun
 pub mod CycleOfScript
+pub mod Diagnosed
 pub mod Taken
 pub mod Lines
 pub mod Loops

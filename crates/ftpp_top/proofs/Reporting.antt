@@ -117,16 +117,24 @@ reporting_end_cut r c told t old mid new before after i w =
 pub summing_first : (r : Run) (c : ClusterValue) (told : Told) (before : Option (List Carried)) → StandsAt r.table r.plan 0 c told → IsSumming r 0 c told no_totals before before
 summing_first r c told before s = record { along = along_first r no_lines c told None before s; totals = refl }
 
+-- a cycle of which nothing is written
+pub carried_more : {n : ℕ} (r : Run) (k : ℕ) (c d : ClusterValue) (told after : Told) (before between later : Option (List Carried)) (asked : Option (ℕ × Rejoined)) (row : List Act) (report : CycleReport n)
+    → IsAlong r no_lines k c told None None before between → length c.journal ≡ k → IsCycleOf r.table r.plan c told asked row d report after → d.first.n ≡ n → TellsMore between (cycle_frames n (length c.journal) (frame_at d.delivered)) later
+    → IsAlong r no_lines (suc k) d after None None before later
+carried_more {n} r k c d told after before between later asked row report i long cycle size told_frames =
+    let here : StandsAt r.table r.plan (length c.journal) c told = subst (λ (m : ℕ). StandsAt r.table r.plan m c told) (sym long) i.stands in
+    let frames : TellsMore between (frames_at r.table r.plan k) later =
+    subst (λ (xs : List Carried). TellsMore between xs later) (ap (λ m. cycle_frames m (length c.journal) (frame_at d.delivered)) (sym size) ∙ (cycle here).0.frames ∙ ap (frames_at r.table r.plan) long) told_frames in
+    let stands : StandsAt r.table r.plan (suc k) d after = subst (λ (m : ℕ). StandsAt r.table r.plan (suc m) d after) long (cycle here).1 in
+    along_more r no_lines k c d told after None None None before between later i stands tt frames
+
 pub summing_more : {n : ℕ} (r : Run) (k : ℕ) (c d : ClusterValue) (told after : Told) (t u : Totals) (before between later : Option (List Carried)) (asked : Option (ℕ × Rejoined)) (row : List Act) (report : CycleReport n)
     → IsSumming r k c told t before between → length c.journal ≡ k → IsCycleOf r.table r.plan c told asked row d report after → d.first.n ≡ n → TellsMore between (cycle_frames n (length c.journal) (frame_at d.delivered)) later
     → u ≡ with_report t (report_told report) → IsSumming r (suc k) d after u before later
 summing_more {n} r k c d told after t u before between later asked row report i long cycle size told_frames e =
     let here : StandsAt r.table r.plan (length c.journal) c told = subst (λ (m : ℕ). StandsAt r.table r.plan m c told) (sym long) i.along.stands in
-    let frames : TellsMore between (frames_at r.table r.plan k) later =
-    subst (λ (xs : List Carried). TellsMore between xs later) (ap (λ m. cycle_frames m (length c.journal) (frame_at d.delivered)) (sym size) ∙ (cycle here).0.frames ∙ ap (frames_at r.table r.plan) long) told_frames in
-    let stands : StandsAt r.table r.plan (suc k) d after = subst (λ (m : ℕ). StandsAt r.table r.plan (suc m) d after) long (cycle here).1 in
     record {
-      along = along_more r no_lines k c d told after None None None before between later i.along stands tt frames;
+      along = carried_more {n = n} r k c d told after before between later asked row report i.along long cycle size told_frames;
       totals = e ∙ (cycle here).0.totals t ∙ (λ j. with_report (i.totals j) (report_at r.table r.plan (long j))) ∙ sym (totals_more r.table r.plan k);
     }
 

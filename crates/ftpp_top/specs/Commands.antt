@@ -7,11 +7,13 @@ use Rattle.workload.specs.Workload.{workload}
 use Rattle.command_words.specs.Commands.{CommandValue, Run as RunOf, Trace, Check, Migrate, Soak, Sweep, Make, Node, Audit, Diagnose, command_of}
 use Rattle.campaign.specs.declared.trial.Outcome.{Outcome as TrialOutcome}
 use Rattle.report_text.specs.declared.totals.Totals.{Totals}
-use Rattle.report_text.specs.PlayedRun.{report_text, trace_text, totals_played}
-use Rattle.command_steps.specs.Ends.{Outcome, Exactly, Anything, done_with, not_lawful}
+use Rattle.report_text.specs.PlayedRun.{totals_played}
+use Rattle.command_steps.specs.Ends.{Outcome, Exactly, done_with, not_lawful}
 use Rattle.command_steps.specs.Known.{Known, Untold, Given, ◌>>=◌}
 use Rattle.command_steps.specs.Loading.{Run, table_named, run_for}
 use Rattle.command_steps.specs.Migrating.{checked, migrated, made}
+use Rattle.ftpp_top.specs.declared.commands.play.RunOutput.TheVariants.{Report, Trace as TraceText, Diagnosis}
+use Rattle.ftpp_top.specs.RunOutputs.{shown, writes}
 use Rattle.ftpp_top.specs.SoakLine.{soak_line}
 
 -- the run of the workload of a number
@@ -20,16 +22,6 @@ soak_run start cycles = record { table = c5; plan = workload start cycles }
 
 abbrev pub soaked : ℕ → ℕ → List ℕ
 soaked start cycles = soak_line start (totals_played c5 (workload start cycles))
-
--- over an honest fabric this text is written; of another one nothing is known
-abbrev pub shown : Bool → List ℕ → Outcome
-shown honest text = done_with (if honest then Exactly text else Anything)
-
-abbrev pub reported : Bool → Run → Outcome
-reported honest r = shown honest (report_text r.table r.plan)
-
-abbrev pub traced : Bool → Run → Outcome
-traced honest r = shown honest (trace_text r.table r.plan)
 
 -- the outcome of a soak as a trial
 abbrev pub in_order : Totals → List ℕ
@@ -67,8 +59,8 @@ ends_by known end = known >>= λ x. Given (end x)
 
 -- how a command ends
 unfoldable pub ends_of : Bool → Option (List NamedBytes) → Option (List ℕ) → CommandValue → Known Outcome
-ends_of honest files left (RunOf config) = ends_by (run_for files left config) (reported honest)
-ends_of honest files left (Trace config) = ends_by (run_for files left config) (traced honest)
+ends_of honest files left (RunOf config) = ends_by (run_for files left config) (writes Report honest)
+ends_of honest files left (Trace config) = ends_by (run_for files left config) (writes TraceText honest)
 ends_of honest files left (Check name) = ends_by (table_named files name) checked
 ends_of honest files left (Migrate name) = ends_by (table_named files name) migrated
 ends_of honest files left (Soak start cycles) = Given (shown honest (soaked start cycles))
@@ -76,7 +68,7 @@ ends_of honest files left (Sweep start count cycles) = Given (swept start count 
 ends_of honest files left (Make start cycles) = Given (made (workload start cycles))
 ends_of honest files left (Node element cycles config) = Untold
 ends_of honest files left (Audit named config) = Untold
-ends_of honest files left (Diagnose config) = Untold
+ends_of honest files left (Diagnose config) = ends_by (run_for files left config) (writes Diagnosis honest)
 
 -- the run whose frames are carried over the fabric that is handed in
 unfoldable pub carried_of : Option (List NamedBytes) → Option (List ℕ) → CommandValue → Known Run
@@ -104,7 +96,7 @@ is_there (Sweep start count cycles) = true
 is_there (Make start cycles) = true
 is_there (Node element cycles config) = false
 is_there (Audit named config) = false
-is_there (Diagnose config) = false
+is_there (Diagnose config) = true
 
 abbrev pub if_there : Option CommandValue → Option CommandValue
 if_there None = None
@@ -123,11 +115,13 @@ ends_with honest files left (Some command) = ends_of honest files left command
 abbrev pub reads : Option CommandValue → Bool
 reads (Some (RunOf config)) = true
 reads (Some (Trace config)) = true
+reads (Some (Diagnose config)) = true
 reads _ = false
 
 abbrev pub loads : Option CommandValue → Option (List ℕ)
 loads (Some (RunOf config)) = config
 loads (Some (Trace config)) = config
+loads (Some (Diagnose config)) = config
 loads (Some (Check name)) = Some name
 loads (Some (Migrate name)) = Some name
 loads _ = None
@@ -135,6 +129,7 @@ loads _ = None
 abbrev pub carries : Option CommandValue → Bool
 carries (Some (RunOf config)) = true
 carries (Some (Trace config)) = true
+carries (Some (Diagnose config)) = true
 carries (Some (Soak start cycles)) = true
 carries _ = false
 

@@ -19,7 +19,7 @@ use Rattle.report_text.specs.Sums.{with_report}
 use Rattle.report_text.specs.Trace.{cycle_frames}
 use Rattle.report_text.specs.PlayedCycle.{next_at, faulty_in, rejoined_in, acts_at, rejoin_played}
 use Rattle.report_text.specs.PlayedRun.{standing_at, report_at, lines_at, frames_at}
-use Rattle.report_text.specs.Laws.{PlaysScript}
+use Rattle.report_text.specs.Laws.{PlaysScript, SaysSame}
 
 -- Before a cycle of a script, and before the rejoin that the script may have there, the cluster stands where the played run stands, and
 -- its adversary plays the script.
@@ -77,8 +77,10 @@ pub record RunsCycle {n : ℕ} (plan : Plan) (k : ℕ) (old : ClusterValue) (act
   pub played : PlaysOf old acts new (Some before) (Some after)
   pub silent : old.faulty ≡ None → after ≡ before
 
--- Then it is the cycle of the played run: the text of its report, what it adds to the totals, and its frames.
+-- Then it is the cycle of the played run: what its report says of all but the faulty element, the text of it, what it adds to the
+-- totals, and its frames.
 pub record IsCycleOfScript {n : ℕ} (table : TableValue) (plan : Plan) (k : ℕ) (acts : List Act) (new : ClusterValue) (report : CycleReport n) : Type 0 where
+  pub says : SaysSame (report_told report) (report_at table plan k)
   pub text : cycle_lines (rejoin_played plan (standing_at table plan k)) acts (report_told report) ≡ lines_at table plan k
   pub totals : (t : Totals) → with_report t (report_told report) ≡ with_report t (report_at table plan k)
   pub frames : cycle_frames new.first.n k (frame_at new.delivered) ≡ frames_at table plan k

@@ -20,6 +20,7 @@ use Rattle.report_text.specs.Report.{report_told, cycle_lines}
 use Rattle.report_text.specs.Sums.{with_report}
 use Rattle.report_text.specs.Trace.{cycle_frames}
 use Rattle.report_text.specs.PlayedCycle.{acts_at, next_at, rejoin_played}
+use Rattle.report_text.specs.Laws.{SaysSame}
 use Rattle.report_text.specs.PlayedRun.{standing_at, report_at, lines_at, frames_at}
 use Rattle.ftpp_top.specs.FollowsScript.{StandsAt, FollowsScript}
 use Rattle.ftpp_top.specs.Due.{acts_in, next_in, IsOrdered, IsApart}
@@ -80,8 +81,11 @@ abbrev pub IsRejoinOf : TableValue → Plan → ClusterValue → Told → Option
 IsRejoinOf table plan old told asked new = StandsAt table plan (length old.journal) old told
     → FollowsScript table plan (length old.journal) new told × (asked ≡ rejoin_played plan (standing_at table plan (length old.journal)))
 
--- The cycle is that of the played run: its text, what it adds to the totals, and its frames.
+-- The cycle is that of the played run: its rejoin, what its report says of all but the faulty element, its text, what it adds to the
+-- totals, and its frames.
 pub record IsOfRun {n : ℕ} (table : TableValue) (plan : Plan) (k : ℕ) (rejoin : Option (ℕ × Rejoined)) (acts : List Act) (new : ClusterValue) (report : CycleReport n) : Type 0 where
+  pub begins : rejoin ≡ rejoin_played plan (standing_at table plan k)
+  pub says : SaysSame (report_told report) (report_at table plan k)
   pub text : cycle_lines rejoin acts (report_told report) ≡ lines_at table plan k
   pub totals : (t : Totals) → with_report t (report_told report) ≡ with_report t (report_at table plan k)
   pub frames : cycle_frames new.first.n k (frame_at new.delivered) ≡ frames_at table plan k

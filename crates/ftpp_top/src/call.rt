@@ -12,12 +12,12 @@ ghost use Rattle.command_words.specs.Values.{command_value, IsInRange};
 ghost use Rattle.workload.specs.Workload.{workload};
 ghost use Rattle.ftpp_top.specs.Carries.{Carries};
 ghost use Rattle.ftpp_top.specs.Causes.{Causes};
-ghost use Rattle.ftpp_top.specs.Commands.{reported, traced, ends_by, ends_with, carried_with, asked_by, if_there, reads, loads, carries};
+ghost use Rattle.ftpp_top.specs.Commands.{ends_by, ends_with, carried_with, asked_by, if_there, reads, loads, carries};
+ghost use Rattle.ftpp_top.specs.RunOutputs.{writes};
 
-use crate::commands::run::run;
+use crate::commands::play::{RunOutput, play};
 use crate::commands::soak::soak;
 use crate::commands::sweep::sweep;
-use crate::commands::trace::trace;
 use command_steps::{Status, check, load_run, load_table, make, migrate, refuse_words};
 use command_words::{Command, read_words};
 use ftpp_base::Gate;
@@ -27,16 +27,17 @@ use std::alloc::Global;
 use std::thread::Threads;
 use workload::make_script;
 
-/// `run`: loads the table, reads the script, and writes the report of its run.
-fn run_command<S: Source, K: Sink, H: Shelf, F: Fabric>(
+/// `run`, `trace` and `diagnose`: loads the table, reads the script, and writes what is asked for of its run.
+fn play_command<S: Source, K: Sink, H: Shelf, F: Fabric>(
     alloc: Global,
+    output: RunOutput,
     config: Option<&str>,
     input: &mut S,
     shelf: &mut H,
     fabric: &mut F,
     out: &mut K,
 ) -> Status
-    ensures ends { EndsAs (ends_by (run_for (H.files shelf.old) (S.left input.old) (option_copied config.entry)) (reported (F.honest fabric.old))) result (K.written out.old) (K.written out.new) }
+    ensures ends { EndsAs (ends_by (run_for (H.files shelf.old) (S.left input.old) (option_copied config.entry)) (writes output (F.honest fabric.old))) result (K.written out.old) (K.written out.new) }
     ensures carried { IsTrue (F.honest fabric.old) → Carries (run_for (H.files shelf.old) (S.left input.old) (option_copied config.entry)) result (F.told fabric.old) (F.told fabric.new) }
     ensures whole { result ≡ Done → IfSome (S.left input.new) (λ bytes. bytes ≡ []) }
     ensures too_long { result ≡ TooLong → (S.taken input.new ≡ raised (S.taken input.old) (script_limit + 1)) ⊎ IsLongFile (H.files shelf.old) (option_copied config.entry) }
@@ -48,31 +49,7 @@ fn run_command<S: Source, K: Sink, H: Shelf, F: Fabric>(
         Ok(parts) => parts,
         Err(status) => return status,
     };
-    run(alloc, &table, &script, fabric, out)
-}
-
-/// `trace`: loads the table, reads the script, and writes the trace of its run.
-fn trace_command<S: Source, K: Sink, H: Shelf, F: Fabric>(
-    alloc: Global,
-    config: Option<&str>,
-    input: &mut S,
-    shelf: &mut H,
-    fabric: &mut F,
-    out: &mut K,
-) -> Status
-    ensures ends { EndsAs (ends_by (run_for (H.files shelf.old) (S.left input.old) (option_copied config.entry)) (traced (F.honest fabric.old))) result (K.written out.old) (K.written out.new) }
-    ensures carried { IsTrue (F.honest fabric.old) → Carries (run_for (H.files shelf.old) (S.left input.old) (option_copied config.entry)) result (F.told fabric.old) (F.told fabric.new) }
-    ensures whole { result ≡ Done → IfSome (S.left input.new) (λ bytes. bytes ≡ []) }
-    ensures too_long { result ≡ TooLong → (S.taken input.new ≡ raised (S.taken input.old) (script_limit + 1)) ⊎ IsLongFile (H.files shelf.old) (option_copied config.entry) }
-    ensures lawful { result ≡ Usage → ⊥ }
-    ensures unloaded { option_copied config.entry ≡ None → shelf.new ≡ shelf.old }
-    ensures causes { Causes result (record { source = S.faults input.old; shelf = H.faults shelf.old; sink = K.faults out.old; written = K.written out.old }) (record { source = S.faults input.new; shelf = H.faults shelf.new; sink = K.faults out.new; written = K.written out.new }) }
-{
-    let (table, script) = match load_run(alloc, config, input, shelf, out) {
-        Ok(parts) => parts,
-        Err(status) => return status,
-    };
-    trace(alloc, &table, &script, fabric, out)
+    play(alloc, output, &table, &script, fabric, out)
 }
 
 /// `check`: loads a table, and writes the line on it and its printed configuration.
@@ -158,8 +135,23 @@ fn answer<R: Threads + Sync, S: Source, K: Sink, H: Shelf, F: Fabric, G: Gate>(
     ensures causes { Causes result (record { source = S.faults input.old; shelf = H.faults shelf.old; sink = K.faults out.old; written = K.written out.old }) (record { source = S.faults input.new; shelf = H.faults shelf.new; sink = K.faults out.new; written = K.written out.new }) }
 {
     match command {
-        Command::Run { config } => run_command(alloc, config, input, shelf, fabric, out),
-        Command::Trace { config } => trace_command(alloc, config, input, shelf, fabric, out),
+        Command::Run { config } => {
+            play_command(alloc, RunOutput::Report, config, input, shelf, fabric, out)
+        }
+        Command::Trace { config } => {
+            play_command(alloc, RunOutput::Trace, config, input, shelf, fabric, out)
+        }
+        Command::Diagnose { config } => {
+            play_command(
+                alloc,
+                RunOutput::Diagnosis,
+                config,
+                input,
+                shelf,
+                fabric,
+                out,
+            )
+        }
         Command::Check { config } => check_command(alloc, config, shelf, out),
         Command::Migrate { config } => migrate_command(alloc, config, shelf, out),
         Command::Soak { start, cycles } => soak(rt, alloc, start, cycles, fabric, gate, out),
@@ -169,9 +161,7 @@ fn answer<R: Threads + Sync, S: Source, K: Sink, H: Shelf, F: Fabric, G: Gate>(
             cycles,
         } => sweep(rt, alloc, start, count, cycles, gate, out),
         Command::Make { start, cycles } => make_command(alloc, start, cycles, out),
-        Command::Node { .. } | Command::Audit { .. } | Command::Diagnose { .. } => {
-            refuse_words(out)
-        }
+        Command::Node { .. } | Command::Audit { .. } => refuse_words(out),
     }
 }
 

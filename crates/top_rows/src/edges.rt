@@ -33,7 +33,7 @@ fn refuses_words_and_scripts(rt: HostRuntime) -> Result<(), Fail> {
         ("cycles 100001", 1, 3),
         ("cycles 2\nat 1 rejoin 0", 2, 15),
     ] {
-        for words in ["run", "trace"] {
+        for words in ["run", "trace", "diagnose"] {
             let answer = call(&rt, words, &source(script.as_bytes()))?;
             assert_eq!(rt; answer.status, Status::Script { line, code }, "{script}");
             assert_eq!(rt;

@@ -4,6 +4,8 @@
 #[cfg(test)]
 mod bench;
 #[cfg(test)]
+mod diagnoses;
+#[cfg(test)]
 mod edges;
 #[cfg(test)]
 mod files;

@@ -5,29 +5,20 @@ ghost use Rattle.link_fabric.specs.declared.fabrics.Carried.{Carried};
 ghost use Rattle.report_text.specs.Lines.{end_line};
 ghost use Rattle.report_text.specs.Sums.{IsBounded};
 ghost use Rattle.ftpp_top.specs.Loops.{IsReporting};
-ghost use Rattle.fault_script.specs.Edited.{never_fall};
 ghost use Rattle.ftpp_outside.specs.Told.{Rose, Adds};
 ghost use Rattle.script_text.specs.Reading.{plan_of};
-ghost use Rattle.script_text.specs.Playable.{IsPlayable};
-ghost use Rattle.command_steps.specs.declared.status.Status.TheVariants.{Write};
-ghost use Rattle.command_steps.specs.Ends.{Ends, AddsPrefix};
-ghost use Rattle.command_steps.specs.Migrating.{IsOfOutput};
+ghost use Rattle.command_steps.specs.Ends.{AddsPrefix};
 ghost use Rattle.cluster.specs.Carrying.{TellsMore};
 ghost use Rattle.report_text.specs.PlayedRun.{report_text, frames_played};
 ghost use Rattle.command_steps.specs.Loading.{Run};
 ghost use Rattle.ftpp_top.specs.FollowsScript.{StandsAt};
 ghost use Rattle.ftpp_top.specs.Playing.{IsReady, told_by};
-ghost use Rattle.ftpp_top.specs.Carries.{CarriesRun, CarriesSome};
-ghost use Rattle.ftpp_top.specs.Commands.{reported};
+ghost use Rattle.ftpp_top.specs.Carries.{CarriesSome};
 
 use crate::playing::Playing;
-use command_steps::Status;
-use config_table::Table;
 use ftpp_outside::{Sink, WriteFault, write_all};
 use link_fabric::Fabric;
 use report_text::{TextBuf, Totals, cycle_text, end_text};
-use script_text::Script;
-use std::alloc::Global;
 
 /// Plays the next cycle, and writes its text.
 fn report_cycle<const N: usize, F: Fabric, K: Sink>(
@@ -77,7 +68,7 @@ fn report_end<K: Sink>(totals: &Totals, text: &mut TextBuf, out: &mut K) -> Resu
 }
 
 /// Plays all cycles, and writes the text of each and the totals.
-fn report_cycles<const N: usize, F: Fabric, K: Sink>(
+pub(crate) fn report_cycles<const N: usize, F: Fabric, K: Sink>(
     playing: &mut Playing<'_, N>,
     fabric: &mut F,
     text: &mut TextBuf,
@@ -98,57 +89,4 @@ fn report_cycles<const N: usize, F: Fabric, K: Sink>(
         report_cycle(playing, &mut totals, fabric, text, out)?;
     }
     report_end(&totals, text, out)
-}
-
-/// Runs a script on a table of `N` elements, and writes its report.
-fn run_on<const N: usize, F: Fabric, K: Sink>(
-    alloc: Global,
-    table: &Table,
-    script: &Script,
-    fabric: &mut F,
-    out: &mut K,
-) -> Status
-    requires size { (N ≡ 4) ⊎ (N ≡ 5) }
-    requires elements { table.now.n ≡ N }
-    requires playable { IsPlayable N (plan_of script.now) }
-    requires edits { IsTrue (never_fall 0 script.now.edits.items) }
-    ensures ends { Ends (reported (F.honest fabric.old) (record { table = table.now; plan = plan_of script.now })) result (K.written out.old) (K.written out.new) }
-    ensures carried { IsTrue (F.honest fabric.old) → CarriesRun (record { table = table.now; plan = plan_of script.now }) result (F.told fabric.old) (F.told fabric.new) }
-    ensures only { IsOfOutput result }
-    ensures write { result ≡ Write → Rose (K.faults out.old) (K.faults out.new) }
-    ensures faults { K.faults out.old ≤ K.faults out.new }
-{
-    let Ok(mut playing) = Playing::<N>::new(alloc, table, script) else {
-        return Status::Memory;
-    };
-    let Ok(mut text) = TextBuf::new(alloc) else {
-        return Status::Memory;
-    };
-    match report_cycles(&mut playing, fabric, &mut text, out) {
-        Ok(()) => Status::Done,
-        Err(WriteFault) => Status::Write,
-    }
-}
-
-/// Runs a script, and writes its report: one piece a cycle, and one for the totals.
-pub(crate) fn run<F: Fabric, K: Sink>(
-    alloc: Global,
-    table: &Table,
-    script: &Script,
-    fabric: &mut F,
-    out: &mut K,
-) -> Status
-    requires playable { IsPlayable table.now.n (plan_of script.now) }
-    requires edits { IsTrue (never_fall 0 script.now.edits.items) }
-    ensures ends { Ends (reported (F.honest fabric.old) (record { table = table.now; plan = plan_of script.now })) result (K.written out.old) (K.written out.new) }
-    ensures carried { IsTrue (F.honest fabric.old) → CarriesRun (record { table = table.now; plan = plan_of script.now }) result (F.told fabric.old) (F.told fabric.new) }
-    ensures only { IsOfOutput result }
-    ensures write { result ≡ Write → Rose (K.faults out.old) (K.faults out.new) }
-    ensures faults { K.faults out.old ≤ K.faults out.new }
-{
-    if table.n() == 4 {
-        run_on::<4, F, K>(alloc, table, script, fabric, out)
-    } else {
-        run_on::<5, F, K>(alloc, table, script, fabric, out)
-    }
 }

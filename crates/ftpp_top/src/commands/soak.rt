@@ -15,7 +15,8 @@ ghost use Rattle.command_steps.specs.Loading.{Run};
 ghost use Rattle.ftpp_top.specs.FollowsScript.{StandsAt};
 ghost use Rattle.ftpp_top.specs.Playing.{IsReady, told_by};
 ghost use Rattle.ftpp_top.specs.Carries.{CarriesRun};
-ghost use Rattle.ftpp_top.specs.Commands.{shown, soaked, soak_run};
+ghost use Rattle.ftpp_top.specs.Commands.{soaked, soak_run};
+ghost use Rattle.ftpp_top.specs.RunOutputs.{shown};
 
 use crate::playing::Playing;
 use crate::soak_line::soak_line;
