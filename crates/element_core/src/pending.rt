@@ -13,7 +13,7 @@ use crate::kept_state::KeptState;
 use bit_vote::Cells;
 use config_table::{Decision, Kind};
 use local_pattern::SystemPattern;
-use pattern_exchange::pattern_of;
+use pattern_exchange::pattern_into;
 use scoreboard::Scoreboard;
 use two_round::TwoRound;
 
@@ -40,7 +40,7 @@ impl<const N: usize> Pending<N> {
         ensures earlier { AreBefore (kept.now.cycle + 1) self.new.after }
     {
         self.results = patterns.results();
-        self.pattern = pattern_of(&self.results);
+        pattern_into(&self.results, &mut self.pattern);
         self.decision = kept.decide(&self.pattern, &mut self.after);
     }
 }

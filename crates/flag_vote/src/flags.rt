@@ -7,7 +7,7 @@ ghost use Rattle.config_table.specs.Groups.{elements_of};
 ghost use Rattle.flag_vote.specs.Flags.{flags_of, voted_flags};
 ghost use Rattle.flag_vote.specs.Words.{flags_on, most_hold, most_held, held_by, all_hold_it};
 
-use crate::members::{Word, all_say, count_those, elements, live_members, said_at};
+use crate::members::{Word, count_those, elements, live_members, tally};
 use config_table::{Group, GroupFlags, Table, VotedFlags};
 use ftpp_base::{MOST_GROUPS, Proc, Set8};
 use local_pattern::SystemPattern;
@@ -70,9 +70,8 @@ fn held<const N: usize>(
     match voted {
         Some(desc) => {
             let word = Word::Holds(desc);
-            let holders = said_at(pattern, &word, live);
-            let all = all_say(pattern, &word, live);
-            (holders, all)
+            let (count, holders) = tally(pattern, &word, live);
+            (holders, count == live.len())
         }
         None => (elements(&[]), false),
     }
@@ -85,7 +84,7 @@ fn flags_on<const N: usize>(pattern: &SystemPattern<N>, vid: u8, live: &[Proc]) 
 {
     let desc = voted_by(pattern, live);
     let (holds, unanimous) = held(pattern, live, desc);
-    let with_space = count_those(pattern, &Word::Space, live);
+    let (with_space, space) = tally(pattern, &Word::Space, live);
     let most_space = is_majority(with_space, live.len());
     GroupFlags {
         vid,
@@ -93,7 +92,7 @@ fn flags_on<const N: usize>(pattern: &SystemPattern<N>, vid: u8, live: &[Proc]) 
         unanimous,
         live: elements(live),
         holds,
-        space: said_at(pattern, &Word::Space, live),
+        space,
         most_space,
     }
 }

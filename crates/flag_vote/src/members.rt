@@ -1,7 +1,6 @@
 //! The live members of a group, and what they say in the agreed pattern.
 
 ghost use Rattle.std.specs.Prelude.{◌≡◌, ◌<◌, ◌≤◌, ◌+◌, ◌++◌, ℕ, List, [], ◌∷◌, length, filter, count_by, if◌then◌else◌};
-ghost use Rattle.std.specs.List.{list_all};
 ghost use Rattle.ftpp_base.specs.Sets.{set_of};
 ghost use Rattle.packet_format.specs.Packets.{same_descriptor};
 ghost use Rattle.config_table.specs.Groups.{elements_of, live_members};
@@ -101,19 +100,6 @@ pub fn count_those<const N: usize>(
     count
 }
 
-/// Whether all members say the word.
-pub fn all_say<const N: usize>(pattern: &SystemPattern<N>, word: &Word, members: &[Proc]) -> bool
-    ensures { result ≡ list_all (says pattern.now word.now) members.now }
-{
-    for p in members {
-        let holds = says(pattern, word, *p);
-        if !holds {
-            return false;
-        }
-    }
-    true
-}
-
 /// The set with one element more. No set has a number that is 8 or more.
 #[tactic(auto, using(crate::proofs::Counted::set_more, crate::proofs::Counted::set_same))]
 fn with_element(set: Set8, ne: u8) -> Set8
@@ -129,16 +115,25 @@ fn with_element_if(set: Set8, belongs: bool, ne: u8) -> Set8
     if belongs { with_element(set, ne) } else { set }
 }
 
-/// The elements at which the members stand that say the word.
-pub fn said_at<const N: usize>(pattern: &SystemPattern<N>, word: &Word, members: &[Proc]) -> Set8
-    ensures { result ≡ set_of (elements_of (filter (says pattern.now word.now) members.now)) }
+/// How many members say the word, and the elements at which they stand.
+pub fn tally<const N: usize>(
+    pattern: &SystemPattern<N>,
+    word: &Word,
+    members: &[Proc],
+) -> (usize, Set8)
+    requires { length members.now ≤ 4 }
+    ensures count { result.0 ≡ count_by (says pattern.now word.now) members.now }
+    ensures few { result.0 ≤ 4 }
+    ensures set { result.1 ≡ set_of (elements_of (filter (says pattern.now word.now) members.now)) }
 {
+    let mut count = 0;
     let mut set = Set8::EMPTY;
     for p in members {
-        let belongs = says(pattern, word, *p);
-        set = with_element_if(set, belongs, p.ne);
+        let counts = says(pattern, word, *p);
+        count = one_more(count, counts);
+        set = with_element_if(set, counts, p.ne);
     }
-    set
+    (count, set)
 }
 
 /// The elements at which the members stand.

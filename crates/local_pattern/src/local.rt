@@ -38,16 +38,14 @@ fn put_entry(bytes: &mut [u8; 32], port: usize, entry: &Entry)
     bytes[at..at + 4].copy_from_slice(&spelled(entry));
 }
 
-/// The pattern that a row shows, port by port.
-fn read_row(row: &[u8; 32]) -> LocalPattern
-    ensures { result ≡ read_column (Some row.now) }
+/// Writes the entries that a row shows, port by port.
+fn read_row(row: &[u8; 32], entries: &mut [Entry; 8])
+    ensures { entries.new ≡ read_column (Some row.now) }
 {
-    let mut entries = [QUIET; 8];
     for port in 0..8 {
         let at = 4 * port;
         entries[port] = read(row[at], row[at + 1], row[at + 2], row[at + 3]);
     }
-    LocalPattern { entries }
 }
 
 impl LocalPattern {
@@ -105,13 +103,22 @@ impl LocalPattern {
 
     /// The pattern that a row shows. An entry outside the grammar is read as no request and no space, and so are all entries
     /// where no row came.
-    #[tactic(auto, using(crate::proofs::Columns::read_absent))]
     pub fn read(cell: Option<&[u8; 32]>) -> LocalPattern
         ensures { result ≡ read_column (option_map (λ row. row.now) cell.entry) }
     {
+        let mut pattern = LocalPattern::quiet();
+        pattern.reread(cell);
+        pattern
+    }
+
+    /// Like `read`, but in place of what was shown before.
+    #[tactic(auto, using(crate::proofs::Columns::read_absent))]
+    pub fn reread(&mut self, cell: Option<&[u8; 32]>)
+        ensures { self.new ≡ read_column (option_map (λ row. row.now) cell.entry) }
+    {
         match cell {
-            Some(row) => read_row(row),
-            None => LocalPattern::quiet(),
+            Some(row) => read_row(row, &mut self.entries),
+            None => *self = LocalPattern::quiet(),
         }
     }
 }

@@ -1,7 +1,7 @@
 //! The agreed pattern: what the ports of all elements show.
 
-ghost use Rattle.std.specs.Prelude.{◌≡◌, ◌<◌, [], replicate, slice_set, slice_index_or};
-ghost use Rattle.local_pattern.specs.Pattern.{entry_of, quiet_column};
+ghost use Rattle.std.specs.Prelude.{◌≡◌, ◌<◌, [], length, replicate, slice_set, slice_index_or, option_map};
+ghost use Rattle.local_pattern.specs.Pattern.{entry_of, quiet_column, read_column};
 
 use crate::spelling::QUIET;
 use crate::{Entry, LocalPattern};
@@ -37,12 +37,28 @@ impl<const N: usize> SystemPattern<N> {
         }
     }
 
+    /// How many elements there are.
+    pub fn elements(&self) -> usize
+        ensures count { result ≡ N }
+        ensures length { length self.now ≡ N }
+    {
+        self.columns.as_slice().len()
+    }
+
     /// Changes what the ports of an element show.
     pub fn set_column(&mut self, ne: Ne, column: LocalPattern)
         requires { ne < N }
         ensures { self.new ≡ slice_set self.old ne column }
     {
         self.columns[ne.index()] = column;
+    }
+
+    /// Changes what the ports of an element show to what a row shows.
+    pub fn reread(&mut self, ne: Ne, cell: Option<&[u8; 32]>)
+        requires { ne < N }
+        ensures { self.new ≡ slice_set self.old ne (read_column (option_map (λ row. row.now) cell.entry)) }
+    {
+        self.columns[ne.index()].reread(cell);
     }
 
     /// What the ports of an element show.

@@ -9,16 +9,8 @@ ghost use Rattle.pattern_exchange.specs.Settled.{settled};
 
 use bit_vote::Cells;
 use ftpp_base::Ne;
-use local_pattern::{LocalPattern, SystemPattern};
+use local_pattern::SystemPattern;
 use two_round::TwoRound;
-
-/// The pattern of one element, read from the result for it.
-fn column<const N: usize>(results: &Cells<N, 32>, source: Ne) -> LocalPattern
-    requires { source < N }
-    ensures { result ≡ read_column (cell_at results.now source) }
-{
-    LocalPattern::read(results.row(source.index()))
-}
 
 /// The pattern of all elements, each read entry by entry from its two-round result. Where there is no
 /// result, or an entry is outside the grammar, no request and no space are shown.
@@ -28,11 +20,20 @@ pub fn pattern_of<const N: usize>(results: &Cells<N, 32>) -> SystemPattern<N>
     ensures settled { (x : Echoes) → results.now ≡ each_below N (result_for x) → result ≡ settled N x }
 {
     let mut pattern = SystemPattern::quiet();
-    for k in 0..N {
-        let source = Ne::at(k);
-        pattern.set_column(source, column(results, source));
-    }
+    pattern_into(results, &mut pattern);
     pattern
+}
+
+/// Like `pattern_of`, but writes it in place of another one.
+pub fn pattern_into<const N: usize>(results: &Cells<N, 32>, pattern: &mut SystemPattern<N>)
+    requires { N ≤ 5 }
+    ensures read { pattern.new ≡ each_below N (λ s. read_column (cell_at results.now s)) }
+    ensures settled { (x : Echoes) → results.now ≡ each_below N (result_for x) → pattern.new ≡ settled N x }
+{
+    for k in 0..pattern.elements() {
+        let source = Ne::at(k);
+        pattern.reread(source, results.row(source.index()));
+    }
 }
 
 /// The pattern of all elements, as one element reads it from what it holds of both rounds.

@@ -4,7 +4,7 @@ use Rattle.ftpp_base.specs.Lists.{cell_at}
 use Rattle.two_round.specs.Echoes.{result_for}
 use Rattle.local_pattern.specs.Pattern.{read_column}
 use Rattle.pattern_exchange.proofs.Reading.{read_each}
-use Rattle.pattern_exchange.proofs.pattern_of.Goals as goal
+use Rattle.pattern_exchange.proofs.pattern_into.Goals as goal
 
 pub returns-clause-read : goal.returns-clause-read
 returns-clause-read g c =

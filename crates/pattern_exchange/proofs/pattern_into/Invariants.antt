@@ -1,7 +1,7 @@
 use Rattle.std.proofs.Common.{◌≡◌, ◌<◌, ℕ, length, get_or, []}
 use Rattle.ftpp_base.specs.Lists.{cell_at}
 use Rattle.local_pattern.specs.Pattern.{read_column}
-use Rattle.pattern_exchange.proofs.pattern_of.Given as goal
+use Rattle.pattern_exchange.proofs.pattern_into.Given as goal
 
 -- the columns so far are read
 abbrev pub invariant-loop-k : goal.invariant-loop-k
