@@ -2,7 +2,7 @@
 
 ghost use Rattle.element_core.specs.Claims.{NoLossWithinSkew, RunsServeInTime};
 ghost use Rattle.whole_run.specs.LogOrder.{EachRunHandsLogInOrder, ReadsInOrder};
-ghost use Rattle.whole_run.specs.Laws.{AlwaysAccurate, AlwaysAccurateAlike, AlwaysEqualEntries, AlwaysSourced, AlwaysUnchanged, CyclesAreCounted, EachCycleLawful, NeverSplit, OverrunsOnlyFull};
+ghost use Rattle.whole_run.specs.Laws.{AgreedStateKept, AlwaysAccurate, AlwaysAccurateAlike, AlwaysEqualEntries, AlwaysSourced, AlwaysUnchanged, CyclesAreCounted, EachCycleLawful, NeverSplit, OverrunsOnlyFull};
 
 // ---- Each cycle.
 
@@ -51,6 +51,11 @@ pub fn each_cycle_lawful()
 /// The number of a cycle is the number of cycles so far.
 pub fn cycles_are_counted()
     ensures { CyclesAreCounted }
+{}
+
+/// With an honest fabric among them, each element has the agreed state of the run: its number, table and scoreboard.
+pub fn agreed_state_is_kept()
+    ensures { AgreedStateKept }
 {}
 
 /// **Service bound.** A lawful request that is held alike is served within its longest wait, while its receiver keeps space.
