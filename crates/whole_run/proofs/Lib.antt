@@ -26,3 +26,9 @@ pub mod Sourced
 pub mod Members
 pub mod HeldAlike
 pub mod WorkedTogether
+pub mod HandedIn
+pub mod LogHanded
+pub mod Fellows
+pub mod ReadOrder
+pub mod LogOrder
+pub mod WorkedLog

@@ -6,9 +6,11 @@ use Rattle.element_core.specs.Cycle.{State, Input, start, step}
 use Rattle.element_core.specs.Run.{Journal, run, run_from, state_at, input_at, shown_at}
 use Rattle.element_core.specs.Claims.{OnlyFullOverruns}
 use Rattle.element_core.specs.Alone.{IsSound, IsInput}
-use Rattle.whole_run.specs.Laws.{EachCycleLawful}
+use Rattle.whole_run.specs.Laws.{EachCycleLawful, AgreedStateKept}
 use Rattle.element_core.proofs.RunLaws.{state_at-suc}
 use Rattle.element_core.proofs.SoundRuns.{sound_at}
+use Rattle.element_core.proofs.TogetherRun.{end_together}
+use Rattle.element_core.specs.Together.{agreed_by}
 use Rattle.whole_run.proofs.Accuracy.{always_accurate}
 use Rattle.whole_run.proofs.Equal.{equal_entries, never_split}
 use Rattle.whole_run.proofs.Members.{always_accurate_alike}
@@ -35,3 +37,7 @@ each_cycle_lawful table journal k valid are l =
       sourced = always_sourced s input at.0 at.1;
       overruns = subst (λ after. OnlyFullOverruns after (shown_at table journal k)) (next_at table journal k l) (only_full s input at.0 at.1);
     }
+
+-- Each element has the agreed state of the run, since it keeps its part of the run.
+pub agreed_state_is_kept : AgreedStateKept
+agreed_state_is_kept table journal carrieds me valid are carried l = ap agreed_by (end_together table journal carrieds me valid are carried l)

@@ -1,11 +1,12 @@
 -- What holds of each cycle from a sound state, whatever comes from outside, and so of each cycle of a run.
-use Rattle.std.specs.Prelude.{◌≡◌, ℕ, ◌+◌, ◌<◌, ◌≤◌, length}
+use Rattle.std.specs.Prelude.{◌≡◌, ℕ, ◌+◌, ◌<◌, ◌≤◌, List, length}
 use Rattle.std.specs.List.{AllByRecursion}
 use Rattle.config_table.specs.Table.{TableValue, IsValid}
-use Rattle.element_core.specs.Cycle.{State, Input, step}
-use Rattle.element_core.specs.Run.{Journal, run, state_at, shown_at}
+use Rattle.element_core.specs.Cycle.{State, Input, start, step}
+use Rattle.element_core.specs.Run.{Journal, run, state_at, shown_at, agreed_state}
 use Rattle.element_core.specs.Claims.{IsAccurate, IsAccurateAlike, EqualEntries, IsWholeEverywhere, IsUnchanged, IsSourced, OnlyFullOverruns}
-use Rattle.element_core.specs.Alone.{IsSound, IsInput}
+use Rattle.element_core.specs.Alone.{IsSound, IsInput, part_of}
+use Rattle.element_core.specs.Together.{Carried, AreCarried, elements_after, agreed_by}
 
 -- each entry on copies that a fault-free element notes names the faulty one
 abbrev pub AlwaysAccurate : Type 0
@@ -54,3 +55,9 @@ EachCycleLawful = (table : TableValue) (journal : Journal) (k : ℕ) → IsValid
 -- The number of a cycle is the number of cycles so far.
 abbrev pub CyclesAreCounted : Type 0
 CyclesAreCounted = (table : TableValue) (journal : Journal) (k : ℕ) → k ≤ length journal → (state_at table journal k).cycle ≡ k
+
+-- With an honest fabric among them, each element has the agreed state of the run, whatever the faulty one sent.
+abbrev pub AgreedStateKept : Type 0
+AgreedStateKept = (table : TableValue) (journal : Journal) (carrieds : List Carried) (me : ℕ)
+    → IsValid table → AllByRecursion (IsInput table.n) journal → AreCarried (part_of (start table)) table.n journal carrieds → me < table.n
+    → agreed_by (elements_after (part_of (start table)) table.n journal carrieds me) ≡ agreed_state (run table journal)

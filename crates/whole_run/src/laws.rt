@@ -1,7 +1,8 @@
 //! What holds of each cycle and of whole runs: each function here stands for a law, which its clause states, and does nothing.
 
 ghost use Rattle.element_core.specs.Claims.{NoLossWithinSkew, RunsServeInTime};
-ghost use Rattle.whole_run.specs.Laws.{AlwaysAccurate, AlwaysAccurateAlike, AlwaysEqualEntries, AlwaysSourced, AlwaysUnchanged, CyclesAreCounted, EachCycleLawful, NeverSplit, OverrunsOnlyFull};
+ghost use Rattle.whole_run.specs.LogOrder.{EachRunHandsLogInOrder, ReadsInOrder};
+ghost use Rattle.whole_run.specs.Laws.{AgreedStateKept, AlwaysAccurate, AlwaysAccurateAlike, AlwaysEqualEntries, AlwaysSourced, AlwaysUnchanged, CyclesAreCounted, EachCycleLawful, NeverSplit, OverrunsOnlyFull};
 
 // ---- Each cycle.
 
@@ -52,6 +53,11 @@ pub fn cycles_are_counted()
     ensures { CyclesAreCounted }
 {}
 
+/// With an honest fabric among them, each element has the agreed state of the run: its number, table and scoreboard.
+pub fn agreed_state_is_kept()
+    ensures { AgreedStateKept }
+{}
+
 /// **Service bound.** A lawful request that is held alike is served within its longest wait, while its receiver keeps space.
 pub fn runs_serve_in_time()
     ensures { RunsServeInTime }
@@ -60,4 +66,18 @@ pub fn runs_serve_in_time()
 /// **No loss within the skew.** The requests of a group whose members post alike are taken in the order of its posts, each once.
 pub fn no_loss_within_skew()
     ensures { NoLossWithinSkew }
+{}
+
+// ---- The log in order.
+
+/// **The log in order.** What a processor is handed in a run is the log's packets for it, in order, but for overruns. Two
+/// fault-free live members of a group are handed the same, but for split entries and overruns. What waits at a processor is
+/// the end of what it was handed.
+pub fn each_run_hands_log_in_order()
+    ensures { EachRunHandsLogInOrder }
+{}
+
+/// A processor reads in order what waits at it and what it is handed, until a rejoin or an update empties its queues.
+pub fn reads_in_order()
+    ensures { ReadsInOrder }
 {}
