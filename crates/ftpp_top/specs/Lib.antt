@@ -1,4 +1,5 @@
 -- What the clauses of this crate cite.
+pub mod Audited
 pub mod Carries
 pub mod Causes
 pub mod ClusterLaws
@@ -7,4 +8,5 @@ pub mod Due
 pub mod FollowsScript
 pub mod Loops
 pub mod Playing
+pub mod Served
 pub mod SoakLine

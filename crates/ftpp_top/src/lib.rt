@@ -13,6 +13,7 @@ mod playing;
 pub mod script_laws;
 mod soak_line;
 mod trials;
+mod verdict_line;
 
 pub use built_in_tables::{built_in_4, built_in_5};
 pub use call::top;
