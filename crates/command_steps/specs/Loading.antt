@@ -41,29 +41,26 @@ abbrev pub table_named : Option (List NamedBytes) → List ℕ → Known TableVa
 table_named None name = Untold
 table_named (Some files) name = table_if_there (bytes_of files name)
 
--- ---- a script
+-- ---- a script, or a trace
 
-abbrev pub plan_or : Result Plan Refusal → Known Plan
-plan_or (Ok plan) = Given plan
-plan_or (Err r) = Ending (refused_script r.line r.code)
-
--- the script of a source's bytes, for n elements
-unfoldable pub plan_of_bytes : ℕ → List ℕ → Known Plan
-plan_of_bytes n bytes = if nat_lt script_limit (length bytes) then Ending too_long else plan_or (script_of n bytes)
-
-abbrev pub plan_told : ℕ → Option (List ℕ) → Known Plan
-plan_told n None = Untold
-plan_told n (Some bytes) = plan_of_bytes n bytes
-
--- ---- a trace
-
--- the bytes of a source, if they are no more than those of a script may be
+-- the bytes of a source, if they are no more than a script may have
 unfoldable pub bytes_within : List ℕ → Known (List ℕ)
 bytes_within bytes = if nat_lt script_limit (length bytes) then Ending too_long else Given bytes
 
 abbrev pub bytes_told : Option (List ℕ) → Known (List ℕ)
 bytes_told None = Untold
 bytes_told (Some bytes) = bytes_within bytes
+
+abbrev pub plan_or : Result Plan Refusal → Known Plan
+plan_or (Ok plan) = Given plan
+plan_or (Err r) = Ending (refused_script r.line r.code)
+
+-- the script of a source's bytes, for n elements
+abbrev pub plan_of_bytes : ℕ → List ℕ → Known Plan
+plan_of_bytes n bytes = plan_or (script_of n bytes)
+
+abbrev pub plan_told : ℕ → Option (List ℕ) → Known Plan
+plan_told n left = bytes_told left >>= plan_of_bytes n
 
 -- ---- a run
 

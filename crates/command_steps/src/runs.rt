@@ -1,6 +1,6 @@
 //! The table and the script of a run, and the table of a command that names an element.
 
-ghost use Rattle.std.specs.Prelude.{◌≡◌, ◌+◌, ◌<◌, ◌≤◌, ◌⊎◌, ℕ, [], Ok, Err, IfErr, IfOk, IfSome, IsTrue, option_copied, Some, None};
+ghost use Rattle.std.specs.Prelude.{◌≡◌, ◌+◌, ◌<◌, ◌≤◌, ◌⊎◌, ℕ, Option, [], Ok, Err, IfErr, IfOk, IfSome, IsTrue, option_copied, Some, None};
 ghost use Rattle.ftpp_outside.specs.Told.{Rose, raised};
 ghost use Rattle.ftpp_outside.specs.Files.{IsLonger};
 ghost use Rattle.config_table.specs.Table.{TableValue};

@@ -90,10 +90,8 @@ pub fn load_script<S: Source, K: Sink>(
     ensures source_faults { S.faults input.old ≤ S.faults input.new }
     ensures sink_faults { K.faults out.old ≤ K.faults out.new }
 {
-    match read_all(alloc, input, MOST_SCRIPT_BYTES) {
+    match load_bytes(alloc, input, out) {
         Ok(bytes) => parse_script(alloc, bytes.as_slice(), table, out),
-        Err(InputError::Read) => Err(Status::Read),
-        Err(InputError::TooLong) => Err(refuse_length(out)),
-        Err(InputError::Memory) => Err(Status::Memory),
+        Err(status) => Err(status),
     }
 }
