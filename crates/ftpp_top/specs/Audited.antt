@@ -1,5 +1,5 @@
 -- What `audit` writes: the line of the verdict on a trace, or the first line that is refused.
-use Rattle.std.specs.Prelude.{ℕ, List, [], ◌++◌, codes, Option, Result, Ok, Err}
+use Rattle.std.specs.Prelude.{◌≡◌, ◌⊎◌, ℕ, List, [], ◌++◌, codes, Option, Result, Ok, Err}
 use Rattle.std.specs.Fmt.{decimal}
 use Rattle.ftpp_base.specs.declared.element.Slot.{Slot}
 use Rattle.config_table.specs.Table.{TableValue}
@@ -11,7 +11,7 @@ use Rattle.trace_audit.specs.AuditedTrace.{Audits, round_word}
 use Rattle.command_steps.specs.declared.status.Status.{Status}
 use Rattle.command_steps.specs.declared.status.Status.TheVariants.{Done, Usage, Script, Config, Read, Write, Memory, TooLong, Stream}
 use Rattle.command_steps.specs.Ends.{Outcome, Exactly, Ends, done_with, refused_script}
-use Rattle.command_steps.specs.Known.{Known, Untold, Ending, Given}
+use Rattle.command_steps.specs.Known.{Known, Untold, Ending, Given, IsHalt}
 
 -- what is audited: a text, from a table on, where the frames of an element that is named may be any
 pub record Audited : Type 0 where
@@ -40,11 +40,11 @@ judged (Err refused.Memory) = record { status = Memory; output = Exactly [] }
 abbrev pub EndsAudit : Audited → Status → Option (List ℕ) → Option (List ℕ) → Type 0
 EndsAudit a status old new = (answer : Result Verdict ScriptError) × Audits a.table a.named a.bytes answer × Ends (judged answer) status old new
 
--- where it is known what is audited
+-- So it is where it is known what is audited, but for a failed read or want of memory before anything is written.
 abbrev pub Judged : Known Audited → Status → Option (List ℕ) → Option (List ℕ) → Type 0
 Judged Untold status old new = Unit {0}
 Judged (Ending o) status old new = Ends o status old new
-Judged (Given a) status old new = EndsAudit a status old new
+Judged (Given a) status old new = (IsHalt status × (new ≡ old)) ⊎ EndsAudit a status old new
 
 -- what an audit ends with
 abbrev pub IsOfAudit : Status → Type 0

@@ -73,8 +73,11 @@ abbrev pub node_for : Option (List NamedBytes) → ℕ → ℕ → Option (List 
 node_for files element cycles config = table_with files (Some element) config >>= λ table. Given (record { table = table; element = element; cycles = cycles })
 
 -- what is audited: first the table is loaded, then the text is read
+abbrev pub audited_bytes : TableValue → Option ℕ → List ℕ → Known Audited
+audited_bytes table named bytes = Given (record { table = table; named = named; bytes = bytes })
+
 abbrev pub audit_on : Option (List ℕ) → Option ℕ → TableValue → Known Audited
-audit_on left named table = bytes_told left >>= λ bytes. Given (record { table = table; named = named; bytes = bytes })
+audit_on left named table = bytes_told left >>= audited_bytes table named
 
 abbrev pub audit_for : Option (List NamedBytes) → Option (List ℕ) → Option ℕ → Option (List ℕ) → Known Audited
 audit_for files left named config = table_with files named config >>= audit_on left named

@@ -4,6 +4,7 @@ pub mod Carries
 pub mod Causes
 pub mod ClusterLaws
 pub mod Commands
+pub mod Completeness
 pub mod Due
 pub mod FollowsScript
 pub mod Loops

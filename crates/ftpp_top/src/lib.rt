@@ -7,6 +7,7 @@
 mod call;
 pub mod cluster_laws;
 mod commands;
+pub mod completeness;
 mod due;
 mod frame_lines;
 mod playing;

@@ -1,6 +1,6 @@
 //! `node`: one element over byte streams.
 
-ghost use Rattle.std.specs.Prelude.{◌≡◌, ◌<◌, ◌≤◌, ◌×◌};
+ghost use Rattle.std.specs.Prelude.{◌≡◌, ◌<◌, ◌≤◌};
 ghost use Rattle.ftpp_outside.specs.Told.{Rose};
 ghost use Rattle.command_steps.specs.declared.status.Status.TheVariants.{Read, Write, Memory};
 ghost use Rattle.ftpp_top.specs.Served.{IsOfNode, ServesNode, status_of};
