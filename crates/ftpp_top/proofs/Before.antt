@@ -1,5 +1,5 @@
 -- A call that ends before its audit, or before its node, begins.
-use Rattle.std.proofs.Common.{◌≡◌, ℕ, ◌≤◌, List, [], ◌++◌, Option, Some, None, inl, inr, refl, sym, ◌∙◌, append-nil, arith}
+use Rattle.std.proofs.Common.{◌≡◌, ℕ, ◌≤◌, List, [], Option, Some, None, inl, refl, sym, ◌∙◌, append-nil, arith}
 use Rattle.ftpp_outside.specs.Told.{Gives, Adds}
 use Rattle.config_table.specs.Table.{TableValue}
 use Rattle.element_node.specs.declared.NodeEnd.TheVariants as end
@@ -11,7 +11,7 @@ use Rattle.command_steps.specs.declared.status.Status.{Status}
 use Rattle.command_steps.specs.declared.status.Status.TheVariants.{Done, Usage, Script, Config, Read, Write, Memory, TooLong, Stream}
 use Rattle.command_steps.specs.Known.{Known, Untold, Ending, Given, ◌>>=◌, IsHalt, Stops}
 use Rattle.ftpp_top.specs.Audited.{Audited, Judged}
-use Rattle.ftpp_top.specs.Served.{NodeRun, ServesNode, Served}
+use Rattle.ftpp_top.specs.Served.{ServesNode, Served}
 
 pub judged_stopped : (known : Known Audited) (status : Status) (old new : Option (List ℕ)) → Stops known status old new → Judged known status old new
 judged_stopped Untold status old new h = tt

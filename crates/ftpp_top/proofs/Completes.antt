@@ -1,18 +1,16 @@
 -- A call on which nothing fails, and of which nothing is refused, is done.
-use Rattle.std.proofs.Common.{◌≡◌, ◌⊎◌, ℕ, ◌<◌, List, [], ◌++◌, Option, Some, None, Ok, Err, inl, inr, refl, sym, ◌∙◌, ap, subst, append-nil, arith}
+use Rattle.std.proofs.Common.{◌≡◌, ◌⊎◌, ℕ, List, [], ◌++◌, Option, Some, None, Ok, Err, inl, inr, refl, sym, ◌∙◌, ap, append-nil, arith}
 use Rattle.ftpp_outside.specs.Told.{Gives}
 use Rattle.script_text.specs.declared.ScriptError.TheVariants as refused
-use Rattle.element_node.specs.declared.NodeEnd.{NodeEnd}
 use Rattle.element_node.specs.declared.NodeEnd.TheVariants as end
 use Rattle.element_node.specs.Node.{Stopped, node}
 use Rattle.element_node.specs.Node.Stopped.{WaitsIn, BreaksIn}
-use Rattle.element_node.specs.Progress.{EndsStream, IsWholeInput, Serves}
+use Rattle.element_node.specs.Progress.{EndsStream, IsWholeInput}
 use Rattle.command_steps.specs.declared.status.Status.{Status}
 use Rattle.command_steps.specs.declared.status.Status.TheVariants.{Done, Usage, Script, Config, Read, Write, Memory, TooLong, Stream}
-use Rattle.command_steps.specs.Ends.{Output, Writes, Ends, done_with}
+use Rattle.command_steps.specs.Ends.{Output}
 use Rattle.command_steps.specs.Known.{IsHalt}
 use Rattle.ftpp_top.specs.Audited.{Audited, judged}
-use Rattle.ftpp_top.specs.Served.{NodeRun, ServesNode}
 use Rattle.ftpp_top.specs.Completeness.{HasFailed, IsDone, DoneIfNoneFails, AuditedIfNoneFails, ServedIfNoneFails}
 
 pub done_if_none_fails : DoneIfNoneFails

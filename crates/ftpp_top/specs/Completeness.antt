@@ -1,8 +1,7 @@
 -- That a call on which nothing fails, and of which nothing is refused, is done.
-use Rattle.std.specs.Prelude.{◌≡◌, ◌⊎◌, ℕ, List, [], Option, Some, Ok}
+use Rattle.std.specs.Prelude.{◌≡◌, ◌⊎◌, ℕ, List, Option, Some, Ok}
 use Rattle.trace_audit.specs.AuditedTrace.{trace_of}
 use Rattle.element_node.specs.Node.{node}
-use Rattle.element_node.specs.Node.Stopped.{WaitsIn}
 use Rattle.element_node.specs.Progress.{IsWholeInput}
 use Rattle.command_steps.specs.declared.status.Status.{Status}
 use Rattle.command_steps.specs.declared.status.Status.TheVariants.{Done, Read, Write, Memory}

@@ -1,6 +1,6 @@
 //! The top call.
 
-ghost use Rattle.std.specs.Prelude.{◌≡◌, ◌+◌, ◌≤◌, ◌⊎◌, [], map, true, false, IfSome, IsTrue, None, string_bytes, option_copied, option_map, Some};
+ghost use Rattle.std.specs.Prelude.{◌≡◌, ◌+◌, ◌≤◌, ◌⊎◌, [], map, true, false, IfSome, IsTrue, None, string_bytes, option_copied, Some};
 ghost use Rattle.ftpp_outside.specs.Told.{raised, Rose};
 ghost use Rattle.ftpp_outside.specs.Files.{IsLonger};
 ghost use Rattle.command_steps.specs.declared.status.Status.TheVariants.{Done, Usage, Read, Write, Memory, TooLong};
@@ -23,7 +23,8 @@ use crate::commands::soak::soak;
 use crate::commands::sweep::sweep;
 use crate::commands::trace::trace;
 use command_steps::{
-    Status, check, load_bytes, load_element, load_named, load_run, load_table, make, migrate, refuse_words,
+    Status, check, load_bytes, load_element, load_named, load_run, load_table, make, migrate,
+    refuse_words,
 };
 use command_words::{Command, read_words};
 use ftpp_base::Gate;

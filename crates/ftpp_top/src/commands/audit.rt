@@ -1,9 +1,9 @@
 //! `audit`: whether a trace follows.
 
-ghost use Rattle.std.specs.Prelude.{◌≡◌, ◌<◌, ◌≤◌, ℕ, IfSome, length};
+ghost use Rattle.std.specs.Prelude.{◌≡◌, ◌<◌, ◌≤◌, IfSome, length};
 ghost use Rattle.ftpp_outside.specs.Told.{Rose};
 ghost use Rattle.trace_audit.specs.AuditedTrace.{Audits};
-ghost use Rattle.command_steps.specs.declared.status.Status.TheVariants.{Usage, Read, Write, Memory, TooLong};
+ghost use Rattle.command_steps.specs.declared.status.Status.TheVariants.{Write, Memory};
 ghost use Rattle.command_steps.specs.Ends.{Exactly, Ends, done_with};
 ghost use Rattle.command_steps.specs.Migrating.{IsOfOutput};
 ghost use Rattle.command_steps.specs.Loading.{script_limit};
@@ -46,12 +46,7 @@ fn write_verdict<K: Sink>(verdict: &Verdict, out: &mut K) -> Status
 }
 
 /// Audits the text of a trace, and writes the verdict, or the first line that is refused. It takes no memory.
-pub(crate) fn audit<K: Sink>(
-    bytes: &[u8],
-    table: &Table,
-    named: Option<Ne>,
-    out: &mut K,
-) -> Status
+pub(crate) fn audit<K: Sink>(bytes: &[u8], table: &Table, named: Option<Ne>, out: &mut K) -> Status
     requires named { IfSome named (λ ne. ne < table.now.n) }
     requires short { length bytes.now ≤ script_limit }
     ensures ends { EndsAudit (record { table = table.now; named = named; bytes = bytes.now }) result (K.written out.old) (K.written out.new) }

@@ -1,6 +1,5 @@
 use Rattle.std.specs.Prelude.{option_copied}
 use Rattle.command_steps.specs.Loading.{table_with, bytes_told}
-use Rattle.command_steps.specs.Known.{Given}
 use Rattle.command_steps.proofs.Stepping.{stops_there, stops_then}
 use Rattle.ftpp_top.specs.Commands.{audit_on, audit_for, audited_bytes}
 use Rattle.ftpp_top.proofs.Before.{judged_stopped}
