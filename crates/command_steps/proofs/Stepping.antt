@@ -5,12 +5,11 @@ use Rattle.std.proofs.lemmas.Bool.{lt-ltb, le-ltb}
 use Rattle.ftpp_outside.specs.Files.{NamedBytes, bytes_of, Loads, IsLonger}
 use Rattle.config_table.specs.Table.{TableValue}
 use Rattle.config_text.specs.Reading.{config_of}
-use Rattle.script_text.specs.Reading.{Plan, script_of}
 use Rattle.command_steps.specs.declared.status.Status.{Status}
 use Rattle.command_steps.specs.declared.status.Status.TheVariants.{Done, Usage, Script, Config, Read, Write, Memory, TooLong, Stream}
 use Rattle.command_steps.specs.Ends.{Outcome, Ends, too_long}
 use Rattle.command_steps.specs.Known.{Known, Untold, Ending, Given, ◌>>=◌, IsKnown, IsHalt, Stops, Steps, EndsAs}
-use Rattle.command_steps.specs.Loading.{file_limit, script_limit, table_or, table_of_file, table_if_there, table_named, plan_or, plan_of_bytes, plan_told}
+use Rattle.command_steps.specs.Loading.{file_limit, script_limit, table_or, table_of_file, table_if_there, table_named, bytes_within, bytes_told}
 
 -- ---- a fault or want of memory before anything is written
 
@@ -52,24 +51,23 @@ pub loads_long : (files : Option (List NamedBytes)) (name : List ℕ) (status : 
 loads_long None name status old new l h = tt
 loads_long (Some files) name status old new l h = long_there (bytes_of files name) status old new l h
 
--- ---- a script
+-- ---- a script, or a trace
 
-bytes_short : (n : ℕ) (xs bytes : List ℕ) → bytes ≡ xs → length bytes ≤ script_limit → plan_of_bytes n xs ≡ plan_or (script_of n bytes)
-unfolding plan_of_bytes
-bytes_short n xs bytes e l = rw (← e, le-ltb script_limit (length bytes) l) refl
+bytes_short : (xs bytes : List ℕ) → bytes ≡ xs → length bytes ≤ script_limit → bytes_within xs ≡ Given bytes
+unfolding bytes_within
+bytes_short xs bytes e l = rw (← e, le-ltb script_limit (length bytes) l) refl
 
-bytes_long : (n : ℕ) (bytes : List ℕ) → script_limit < length bytes → plan_of_bytes n bytes ≡ Ending too_long
-unfolding plan_of_bytes
-bytes_long n bytes l = rw (lt-ltb script_limit (length bytes) l) refl
+bytes_long : (bytes : List ℕ) → script_limit < length bytes → bytes_within bytes ≡ Ending too_long
+unfolding bytes_within
+bytes_long bytes l = rw (lt-ltb script_limit (length bytes) l) refl
 
-pub reads_short : {B : Type 0} (view : B → Plan) (n : ℕ) (told : Option (List ℕ)) (bytes : List ℕ) (r : Result B Status) (old new : Option (List ℕ)) → IfSome told (λ xs. bytes ≡ xs) → length bytes ≤ script_limit
-    → Steps view (plan_or (script_of n bytes)) r old new → Steps view (plan_told n told) r old new
-reads_short view n None bytes r old new e l h = unknown view (plan_or (script_of n bytes)) r old new h
-reads_short view n (Some xs) bytes r old new e l h = subst (λ (k : Known Plan). Steps view k r old new) (sym (bytes_short n xs bytes e l)) h
+pub reads_short : (told : Option (List ℕ)) (bytes : List ℕ) → IfSome told (λ xs. bytes ≡ xs) → length bytes ≤ script_limit → IsKnown (bytes_told told) bytes
+reads_short None bytes e l = tt
+reads_short (Some xs) bytes e l = subst (λ (k : Known (List ℕ)). IsKnown k bytes) (sym (bytes_short xs bytes e l)) refl
 
-pub reads_long : (n : ℕ) (told : Option (List ℕ)) (status : Status) (old new : Option (List ℕ)) → IfSome told (λ xs. script_limit < length xs) → Ends too_long status old new → Stops (plan_told n told) status old new
-reads_long n None status old new l h = tt
-reads_long n (Some xs) status old new l h = subst (λ (k : Known Plan). Stops k status old new) (sym (bytes_long n xs l)) h
+pub reads_long : (told : Option (List ℕ)) (status : Status) (old new : Option (List ℕ)) → IfSome told (λ xs. script_limit < length xs) → Ends too_long status old new → Stops (bytes_told told) status old new
+reads_long None status old new l h = tt
+reads_long (Some xs) status old new l h = subst (λ (k : Known (List ℕ)). Stops k status old new) (sym (bytes_long xs l)) h
 
 -- ---- one step after another
 

@@ -41,19 +41,26 @@ abbrev pub table_named : Option (List NamedBytes) → List ℕ → Known TableVa
 table_named None name = Untold
 table_named (Some files) name = table_if_there (bytes_of files name)
 
--- ---- a script
+-- ---- a script, or a trace
+
+-- the bytes of a source, if they are no more than a script may have
+unfoldable pub bytes_within : List ℕ → Known (List ℕ)
+bytes_within bytes = if nat_lt script_limit (length bytes) then Ending too_long else Given bytes
+
+abbrev pub bytes_told : Option (List ℕ) → Known (List ℕ)
+bytes_told None = Untold
+bytes_told (Some bytes) = bytes_within bytes
 
 abbrev pub plan_or : Result Plan Refusal → Known Plan
 plan_or (Ok plan) = Given plan
 plan_or (Err r) = Ending (refused_script r.line r.code)
 
 -- the script of a source's bytes, for n elements
-unfoldable pub plan_of_bytes : ℕ → List ℕ → Known Plan
-plan_of_bytes n bytes = if nat_lt script_limit (length bytes) then Ending too_long else plan_or (script_of n bytes)
+abbrev pub plan_of_bytes : ℕ → List ℕ → Known Plan
+plan_of_bytes n bytes = plan_or (script_of n bytes)
 
 abbrev pub plan_told : ℕ → Option (List ℕ) → Known Plan
-plan_told n None = Untold
-plan_told n (Some bytes) = plan_of_bytes n bytes
+plan_told n left = bytes_told left >>= plan_of_bytes n
 
 -- ---- a run
 
@@ -66,6 +73,19 @@ pub record Run : Type 0 where
 abbrev pub table_for : Option (List NamedBytes) → Option (List ℕ) → Known TableValue
 table_for files None = Given c4
 table_for files (Some name) = table_named files name
+
+-- the element of a number among n
+abbrev pub element_in : ℕ → ℕ → Known ℕ
+element_in n number = if nat_lt number n then Given number else Ending (refused_config 18)
+
+-- the same table, where the element that is named, if one is, is one of its elements
+abbrev pub if_has : Option ℕ → TableValue → Known TableValue
+if_has None table = Given table
+if_has (Some number) table = element_in table.n number >>= λ ne. Given table
+
+-- the table of a command that names an element, or none
+abbrev pub table_with : Option (List NamedBytes) → Option ℕ → Option (List ℕ) → Known TableValue
+table_with files named config = table_for files config >>= if_has named
 
 -- with the script of the source's bytes
 abbrev pub run_on : Option (List ℕ) → TableValue → Known Run

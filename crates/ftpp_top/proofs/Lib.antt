@@ -1,6 +1,8 @@
 -- Lemmas of this crate.
 pub mod Again
+pub mod Before
 pub mod Begun
+pub mod Completes
 pub mod CycleOfScript
 pub mod Diagnosed
 pub mod Taken

@@ -2,6 +2,7 @@
 use Rattle.std.specs.Prelude.{ℕ, Bool, List, [], ◌∷◌, slice_index, Option, Some, None, if◌then◌else◌, true, false}
 use Rattle.std.specs.List.{flat_map, range_with_len}
 use Rattle.ftpp_outside.specs.Files.{NamedBytes}
+use Rattle.config_table.specs.Table.{TableValue}
 use Rattle.built_in_tables.specs.Tables.{c5}
 use Rattle.workload.specs.Workload.{workload}
 use Rattle.command_words.specs.Commands.{CommandValue, Run as RunOf, Trace, Check, Migrate, Soak, Sweep, Make, Node, Audit, Diagnose, command_of}
@@ -10,10 +11,12 @@ use Rattle.report_text.specs.declared.totals.Totals.{Totals}
 use Rattle.report_text.specs.PlayedRun.{totals_played}
 use Rattle.command_steps.specs.Ends.{Outcome, Exactly, done_with, not_lawful}
 use Rattle.command_steps.specs.Known.{Known, Untold, Given, ◌>>=◌}
-use Rattle.command_steps.specs.Loading.{Run, table_named, run_for}
+use Rattle.command_steps.specs.Loading.{Run, table_named, table_with, bytes_told, run_for}
 use Rattle.command_steps.specs.Migrating.{checked, migrated, made}
 use Rattle.ftpp_top.specs.declared.commands.play.RunOutput.TheVariants.{Report, Trace as TraceText, Diagnosis}
 use Rattle.ftpp_top.specs.RunOutputs.{shown, writes}
+use Rattle.ftpp_top.specs.Audited.{Audited}
+use Rattle.ftpp_top.specs.Served.{NodeRun}
 use Rattle.ftpp_top.specs.SoakLine.{soak_line}
 
 -- the run of the workload of a number
@@ -57,7 +60,21 @@ swept start count cycles = done_with (Exactly (flat_map (line_from cycles) (rang
 abbrev pub ends_by : {A : Type 0} → Known A → (A → Outcome) → Known Outcome
 ends_by known end = known >>= λ x. Given (end x)
 
--- how a command ends
+-- the element that runs, once its table is loaded
+abbrev pub node_for : Option (List NamedBytes) → ℕ → ℕ → Option (List ℕ) → Known NodeRun
+node_for files element cycles config = table_with files (Some element) config >>= λ table. Given (record { table = table; element = element; cycles = cycles })
+
+-- what is audited: first the table is loaded, then the text is read
+abbrev pub audited_bytes : TableValue → Option ℕ → List ℕ → Known Audited
+audited_bytes table named bytes = Given (record { table = table; named = named; bytes = bytes })
+
+abbrev pub audit_on : Option (List ℕ) → Option ℕ → TableValue → Known Audited
+audit_on left named table = bytes_told left >>= audited_bytes table named
+
+abbrev pub audit_for : Option (List NamedBytes) → Option (List ℕ) → Option ℕ → Option (List ℕ) → Known Audited
+audit_for files left named config = table_with files named config >>= audit_on left named
+
+-- how a command ends; for `node` and `audit` two clauses of their own say it
 unfoldable pub ends_of : Bool → Option (List NamedBytes) → Option (List ℕ) → CommandValue → Known Outcome
 ends_of honest files left (RunOf config) = ends_by (run_for files left config) (writes Report honest)
 ends_of honest files left (Trace config) = ends_by (run_for files left config) (writes TraceText honest)
@@ -83,28 +100,20 @@ carried_of files left (Make start cycles) = Untold
 carried_of files left (Node element cycles config) = Untold
 carried_of files left (Audit named config) = Untold
 
+-- what is audited, and which element runs as a node
+unfoldable pub audited_of : Option (List NamedBytes) → Option (List ℕ) → CommandValue → Known Audited
+audited_of files left (Audit named config) = audit_for files left named config
+audited_of files left _ = Untold
+
+unfoldable pub node_of : Option (List NamedBytes) → CommandValue → Known NodeRun
+node_of files (Node element cycles config) = node_for files element cycles config
+node_of files _ = Untold
+
 -- ---- words
-
--- the commands that there are so far
-abbrev pub is_there : CommandValue → Bool
-is_there (RunOf config) = true
-is_there (Trace config) = true
-is_there (Check name) = true
-is_there (Migrate name) = true
-is_there (Soak start cycles) = true
-is_there (Sweep start count cycles) = true
-is_there (Make start cycles) = true
-is_there (Node element cycles config) = false
-is_there (Audit named config) = false
-is_there (Diagnose config) = true
-
-abbrev pub if_there : Option CommandValue → Option CommandValue
-if_there None = None
-if_there (Some command) = if is_there command then Some command else None
 
 -- what the words ask for, None exactly where they are not lawful
 abbrev pub asked_by : List (List ℕ) → Option CommandValue
-asked_by words = if_there (command_of words)
+asked_by words = command_of words
 
 -- how a call with such words ends
 abbrev pub ends_with : Bool → Option (List NamedBytes) → Option (List ℕ) → Option CommandValue → Known Outcome
@@ -116,6 +125,8 @@ abbrev pub reads : Option CommandValue → Bool
 reads (Some (RunOf config)) = true
 reads (Some (Trace config)) = true
 reads (Some (Diagnose config)) = true
+reads (Some (Node element cycles config)) = true
+reads (Some (Audit named config)) = true
 reads _ = false
 
 abbrev pub loads : Option CommandValue → Option (List ℕ)
@@ -124,6 +135,8 @@ loads (Some (Trace config)) = config
 loads (Some (Diagnose config)) = config
 loads (Some (Check name)) = Some name
 loads (Some (Migrate name)) = Some name
+loads (Some (Node element cycles config)) = config
+loads (Some (Audit named config)) = config
 loads _ = None
 
 abbrev pub carries : Option CommandValue → Bool
@@ -136,3 +149,16 @@ carries _ = false
 abbrev pub carried_with : Option (List NamedBytes) → Option (List ℕ) → Option CommandValue → Known Run
 carried_with files left None = Untold
 carried_with files left (Some command) = carried_of files left command
+
+abbrev pub audited_with : Option (List NamedBytes) → Option (List ℕ) → Option CommandValue → Known Audited
+audited_with files left None = Untold
+audited_with files left (Some command) = audited_of files left command
+
+abbrev pub node_with : Option (List NamedBytes) → Option CommandValue → Known NodeRun
+node_with files None = Untold
+node_with files (Some command) = node_of files command
+
+-- whether a command runs an element as a node
+abbrev pub is_node : Option CommandValue → Bool
+is_node (Some (Node element cycles config)) = true
+is_node _ = false

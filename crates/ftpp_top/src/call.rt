@@ -1,6 +1,6 @@
 //! The top call.
 
-ghost use Rattle.std.specs.Prelude.{◌≡◌, ◌+◌, ◌≤◌, ◌⊎◌, [], map, true, false, IfSome, IsTrue, None, string_bytes, option_copied, option_map, Some};
+ghost use Rattle.std.specs.Prelude.{◌≡◌, ◌+◌, ◌≤◌, ◌⊎◌, [], map, true, false, IfSome, IsTrue, None, string_bytes, option_copied, Some};
 ghost use Rattle.ftpp_outside.specs.Told.{raised, Rose};
 ghost use Rattle.ftpp_outside.specs.Files.{IsLonger};
 ghost use Rattle.command_steps.specs.declared.status.Status.TheVariants.{Done, Usage, Read, Write, Memory, TooLong};
@@ -10,15 +10,22 @@ ghost use Rattle.command_steps.specs.Loading.{script_limit, file_limit, table_na
 ghost use Rattle.command_steps.specs.Migrating.{checked, migrated, made, IsOfOutput};
 ghost use Rattle.command_words.specs.Values.{command_value, IsInRange};
 ghost use Rattle.workload.specs.Workload.{workload};
+ghost use Rattle.ftpp_top.specs.Audited.{Judged};
 ghost use Rattle.ftpp_top.specs.Carries.{Carries};
 ghost use Rattle.ftpp_top.specs.Causes.{Causes};
-ghost use Rattle.ftpp_top.specs.Commands.{ends_by, ends_with, carried_with, asked_by, if_there, reads, loads, carries};
+ghost use Rattle.ftpp_top.specs.Commands.{ends_by, ends_with, carried_with, node_for, node_with, audit_for, audited_with, asked_by, reads, loads, carries, is_node};
 ghost use Rattle.ftpp_top.specs.RunOutputs.{writes};
+ghost use Rattle.ftpp_top.specs.Served.{Served};
 
+use crate::commands::audit::audit;
+use crate::commands::node::node;
 use crate::commands::play::{RunOutput, play};
 use crate::commands::soak::soak;
 use crate::commands::sweep::sweep;
-use command_steps::{Status, check, load_run, load_table, make, migrate, refuse_words};
+use command_steps::{
+    Status, check, load_bytes, load_element, load_named, load_run, load_table, make, migrate,
+    refuse_words,
+};
 use command_words::{Command, read_words};
 use ftpp_base::Gate;
 use ftpp_outside::{Shelf, Sink, Source};
@@ -102,8 +109,62 @@ fn make_command<K: Sink>(alloc: Global, start: u64, cycles: u32, out: &mut K) ->
     }
 }
 
+/// `node`: loads the table, and runs one of its elements over the source and the sink.
+fn node_command<S: Source, K: Sink, H: Shelf>(
+    alloc: Global,
+    element: u8,
+    cycles: u32,
+    config: Option<&str>,
+    input: &mut S,
+    shelf: &mut H,
+    out: &mut K,
+) -> Status
+    requires some { 1 ≤ cycles }
+    requires few { cycles ≤ 100000 }
+    ensures served { Served (node_for (H.files shelf.old) element cycles (option_copied config.entry)) result (S.left input.old) (S.left input.new) (K.written out.old) (K.written out.new) }
+    ensures whole { result ≡ Done → IfSome (S.left input.new) (λ bytes. bytes ≡ []) }
+    ensures too_long { result ≡ TooLong → IsLongFile (H.files shelf.old) (option_copied config.entry) }
+    ensures lawful { result ≡ Usage → ⊥ }
+    ensures unserved { result ≡ Memory → input.new ≡ input.old }
+    ensures unloaded { option_copied config.entry ≡ None → shelf.new ≡ shelf.old }
+    ensures causes { Causes result (record { source = S.faults input.old; shelf = H.faults shelf.old; sink = K.faults out.old; written = K.written out.old }) (record { source = S.faults input.new; shelf = H.faults shelf.new; sink = K.faults out.new; written = K.written out.new }) }
+{
+    let (table, me) = match load_element(alloc, element, config, shelf, out) {
+        Ok(parts) => parts,
+        Err(status) => return status,
+    };
+    node(alloc, me, &table, cycles, input, out)
+}
+
+/// `audit`: loads the table, reads the trace, and writes the verdict on it.
+fn audit_command<S: Source, K: Sink, H: Shelf>(
+    alloc: Global,
+    named: Option<u8>,
+    config: Option<&str>,
+    input: &mut S,
+    shelf: &mut H,
+    out: &mut K,
+) -> Status
+    ensures ends { Judged (audit_for (H.files shelf.old) (S.left input.old) named (option_copied config.entry)) result (K.written out.old) (K.written out.new) }
+    ensures whole { result ≡ Done → IfSome (S.left input.new) (λ bytes. bytes ≡ []) }
+    ensures too_long { result ≡ TooLong → (S.taken input.new ≡ raised (S.taken input.old) (script_limit + 1)) ⊎ IsLongFile (H.files shelf.old) (option_copied config.entry) }
+    ensures lawful { result ≡ Usage → ⊥ }
+    ensures unloaded { option_copied config.entry ≡ None → shelf.new ≡ shelf.old }
+    ensures causes { Causes result (record { source = S.faults input.old; shelf = H.faults shelf.old; sink = K.faults out.old; written = K.written out.old }) (record { source = S.faults input.new; shelf = H.faults shelf.new; sink = K.faults out.new; written = K.written out.new }) }
+{
+    let (table, named) = match load_named(alloc, named, config, shelf, out) {
+        Ok(parts) => parts,
+        Err(status) => return status,
+    };
+    let bytes = match load_bytes(alloc, input, out) {
+        Ok(bytes) => bytes,
+        Err(status) => return status,
+    };
+    audit(bytes.as_slice(), &table, named, out)
+}
+
 /// Carries out a command.
-#[tactic(auto, unfolding(crate::specs::Commands::ends_of, crate::specs::Commands::carried_of))]
+#[tactic(auto, unfolding(crate::specs::Commands::ends_of, crate::specs::Commands::carried_of, crate::specs::Commands::audited_of, crate::specs::Commands::node_of))]
 fn answer<R: Threads + Sync, S: Source, K: Sink, H: Shelf, F: Fabric, G: Gate>(
     rt: &R,
     alloc: Global,
@@ -116,22 +177,27 @@ fn answer<R: Threads + Sync, S: Source, K: Sink, H: Shelf, F: Fabric, G: Gate>(
 ) -> Status
     requires { IsInRange command }
     // The words, and what the shelf and the source tell, decide what is answered and written.
-    ensures told { EndsAs (ends_with (F.honest fabric.old) (H.files shelf.old) (S.left input.old) (if_there (Some (command_value command.entry)))) result (K.written out.old) (K.written out.new) }
+    ensures told { EndsAs (ends_with (F.honest fabric.old) (H.files shelf.old) (S.left input.old) (Some (command_value command.entry))) result (K.written out.old) (K.written out.new) }
+    // `audit` writes the verdict on the trace.
+    ensures audited { Judged (audited_with (H.files shelf.old) (S.left input.old) (Some (command_value command.entry))) result (K.written out.old) (K.written out.new) }
+    // `node` writes the node text of what it reads.
+    ensures served { Served (node_with (H.files shelf.old) (Some (command_value command.entry))) result (S.left input.old) (S.left input.new) (K.written out.old) (K.written out.new) }
     // The frames that were carried are those of the run.
-    ensures carried { IsTrue (F.honest fabric.old) → Carries (carried_with (H.files shelf.old) (S.left input.old) (if_there (Some (command_value command.entry)))) result (F.told fabric.old) (F.told fabric.new) }
+    ensures carried { IsTrue (F.honest fabric.old) → Carries (carried_with (H.files shelf.old) (S.left input.old) (Some (command_value command.entry))) result (F.told fabric.old) (F.told fabric.new) }
 
     // Words that are not lawful are refused, and only these.
-    ensures usage { (if_there (Some (command_value command.entry))) ≡ None → IsOr Usage result }
-    ensures lawful { result ≡ Usage → (if_there (Some (command_value command.entry))) ≡ None }
+    ensures usage { (Some (command_value command.entry)) ≡ None → IsOr Usage result }
+    ensures lawful { result ≡ Usage → (Some (command_value command.entry)) ≡ None }
 
     // What a command does not use stays.
-    ensures unread { reads (if_there (Some (command_value command.entry))) ≡ false → input.new ≡ input.old }
-    ensures unloaded { loads (if_there (Some (command_value command.entry))) ≡ None → shelf.new ≡ shelf.old }
-    ensures uncarried { carries (if_there (Some (command_value command.entry))) ≡ false → fabric.new ≡ fabric.old }
+    ensures unread { reads (Some (command_value command.entry)) ≡ false → input.new ≡ input.old }
+    ensures unloaded { loads (Some (command_value command.entry)) ≡ None → shelf.new ≡ shelf.old }
+    ensures uncarried { carries (Some (command_value command.entry)) ≡ false → fabric.new ≡ fabric.old }
+    ensures unserved { result ≡ Memory → is_node (Some (command_value command.entry)) ≡ true → input.new ≡ input.old }
 
     // What is done read the source to its end.
-    ensures whole { result ≡ Done → reads (if_there (Some (command_value command.entry))) ≡ true → IfSome (S.left input.new) (λ bytes. bytes ≡ []) }
-    ensures too_long { result ≡ TooLong → (S.taken input.new ≡ raised (S.taken input.old) (script_limit + 1)) ⊎ IsLongFile (H.files shelf.old) (loads (if_there (Some (command_value command.entry)))) }
+    ensures whole { result ≡ Done → reads (Some (command_value command.entry)) ≡ true → IfSome (S.left input.new) (λ bytes. bytes ≡ []) }
+    ensures too_long { result ≡ TooLong → (S.taken input.new ≡ raised (S.taken input.old) (script_limit + 1)) ⊎ IsLongFile (H.files shelf.old) (loads (Some (command_value command.entry))) }
     ensures causes { Causes result (record { source = S.faults input.old; shelf = H.faults shelf.old; sink = K.faults out.old; written = K.written out.old }) (record { source = S.faults input.new; shelf = H.faults shelf.new; sink = K.faults out.new; written = K.written out.new }) }
 {
     match command {
@@ -161,7 +227,12 @@ fn answer<R: Threads + Sync, S: Source, K: Sink, H: Shelf, F: Fabric, G: Gate>(
             cycles,
         } => sweep(rt, alloc, start, count, cycles, gate, out),
         Command::Make { start, cycles } => make_command(alloc, start, cycles, out),
-        Command::Node { .. } | Command::Audit { .. } => refuse_words(out),
+        Command::Node {
+            element,
+            cycles,
+            config,
+        } => node_command(alloc, element, cycles, config, input, shelf, out),
+        Command::Audit { named, config } => audit_command(alloc, named, config, input, shelf, out),
     }
 }
 
@@ -181,6 +252,10 @@ pub fn top<R: Threads + Sync, S: Source, K: Sink, H: Shelf, F: Fabric, G: Gate>(
 ) -> Status
     // The words, and what the shelf and the source tell, decide what is answered and written.
     ensures told { EndsAs (ends_with (F.honest fabric.old) (H.files shelf.old) (S.left input.old) (asked_by (map string_bytes words.now))) result (K.written out.old) (K.written out.new) }
+    // `audit` writes the verdict on the trace.
+    ensures audited { Judged (audited_with (H.files shelf.old) (S.left input.old) (asked_by (map string_bytes words.now))) result (K.written out.old) (K.written out.new) }
+    // `node` writes the node text of what it reads.
+    ensures served { Served (node_with (H.files shelf.old) (asked_by (map string_bytes words.now))) result (S.left input.old) (S.left input.new) (K.written out.old) (K.written out.new) }
     // The frames that were carried are those of the run.
     ensures carried { IsTrue (F.honest fabric.old) → Carries (carried_with (H.files shelf.old) (S.left input.old) (asked_by (map string_bytes words.now))) result (F.told fabric.old) (F.told fabric.new) }
 
@@ -192,6 +267,7 @@ pub fn top<R: Threads + Sync, S: Source, K: Sink, H: Shelf, F: Fabric, G: Gate>(
     ensures unread { reads (asked_by (map string_bytes words.now)) ≡ false → input.new ≡ input.old }
     ensures unloaded { loads (asked_by (map string_bytes words.now)) ≡ None → shelf.new ≡ shelf.old }
     ensures uncarried { carries (asked_by (map string_bytes words.now)) ≡ false → fabric.new ≡ fabric.old }
+    ensures unserved { result ≡ Memory → is_node (asked_by (map string_bytes words.now)) ≡ true → input.new ≡ input.old }
 
     // What is done read the source to its end.
     ensures whole { result ≡ Done → reads (asked_by (map string_bytes words.now)) ≡ true → IfSome (S.left input.new) (λ bytes. bytes ≡ []) }

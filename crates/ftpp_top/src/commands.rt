@@ -1,6 +1,8 @@
-//! The commands that run a cluster, one a file.
+//! The commands, one a file: those that run a cluster, one element, or an audit.
 
+pub(crate) mod audit;
 pub(crate) mod diagnose;
+pub(crate) mod node;
 pub(crate) mod play;
 pub(crate) mod run;
 pub(crate) mod soak;

@@ -7,12 +7,14 @@
 mod call;
 pub mod cluster_laws;
 mod commands;
+pub mod completeness;
 mod due;
 mod frame_lines;
 mod playing;
 pub mod script_laws;
 mod soak_line;
 mod trials;
+mod verdict_line;
 
 pub use built_in_tables::{built_in_4, built_in_5};
 pub use call::top;

@@ -43,13 +43,20 @@ pub(crate) struct Answer {
     pub(crate) text: String,
 }
 
-/// Calls `top` with words that are parted by one space, over a fabric.
-pub(crate) fn call_over<R: Threads + Sync + AllocGlobal, F: Fabric>(
+/// The same, where what was written is no text.
+#[derive(Debug, Drop)]
+pub(crate) struct RawAnswer {
+    pub(crate) status: Status,
+    pub(crate) bytes: Vec<u8>,
+}
+
+/// Calls `top` with words that are parted by one space, over a fabric, and gives the bytes that it wrote.
+fn call_raw_over<R: Threads + Sync + AllocGlobal, F: Fabric>(
     rt: &R,
     words: &str,
     around: &Around<'_>,
     fabric: &mut F,
-) -> Result<Answer, Fail> {
+) -> Result<RawAnswer, Fail> {
     let alloc = rt.alloc();
     let mut given = Vec::new(alloc);
     for word in words.split(' ') {
@@ -79,8 +86,31 @@ pub(crate) fn call_over<R: Threads + Sync + AllocGlobal, F: Fabric>(
         &OpenGate,
         &mut out,
     );
-    let text = String::from_utf8(Vec::from_slice(alloc, out.bytes())?)?;
-    Ok(Answer { status, text })
+    let bytes = Vec::from_slice(alloc, out.bytes())?;
+    Ok(RawAnswer { status, bytes })
+}
+
+/// The same over a mesh.
+pub(crate) fn call_raw<R: Threads + Sync + AllocGlobal>(
+    rt: &R,
+    words: &str,
+    around: &Around<'_>,
+) -> Result<RawAnswer, Fail> {
+    call_raw_over(rt, words, around, &mut Mesh)
+}
+
+/// Calls `top` over a fabric, and gives the text that it wrote.
+pub(crate) fn call_over<R: Threads + Sync + AllocGlobal, F: Fabric>(
+    rt: &R,
+    words: &str,
+    around: &Around<'_>,
+    fabric: &mut F,
+) -> Result<Answer, Fail> {
+    let raw = call_raw_over(rt, words, around, fabric)?;
+    Ok(Answer {
+        status: raw.status,
+        text: String::from_utf8(raw.bytes)?,
+    })
 }
 
 /// The same over a mesh.

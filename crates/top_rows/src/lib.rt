@@ -2,6 +2,8 @@
 #![tactic(auto)]
 
 #[cfg(test)]
+mod audits;
+#[cfg(test)]
 mod bench;
 #[cfg(test)]
 mod diagnoses;
@@ -11,6 +13,8 @@ mod edges;
 mod files;
 #[cfg(test)]
 mod gates;
+#[cfg(test)]
+mod nodes;
 #[cfg(test)]
 mod reports;
 #[cfg(test)]
