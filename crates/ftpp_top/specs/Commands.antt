@@ -5,7 +5,7 @@ use Rattle.ftpp_outside.specs.Files.{NamedBytes}
 use Rattle.config_table.specs.Table.{TableValue}
 use Rattle.built_in_tables.specs.Tables.{c5}
 use Rattle.workload.specs.Workload.{workload}
-use Rattle.command_words.specs.Commands.{CommandValue, Run as RunOf, Trace, Check, Migrate, Soak, Sweep, Make, Node, Audit, Diagnose, command_of}
+use Rattle.command_words.specs.Commands.{CommandValue, Run as RunOf, Trace, Check, Migrate, Soak, Sweep, Make, Node, Audit, Diagnose}
 use Rattle.campaign.specs.declared.trial.Outcome.{Outcome as TrialOutcome}
 use Rattle.report_text.specs.declared.totals.Totals.{Totals}
 use Rattle.report_text.specs.PlayedRun.{totals_played}
@@ -111,11 +111,7 @@ node_of files _ = Untold
 
 -- ---- words
 
--- what the words ask for, None exactly where they are not lawful
-abbrev pub asked_by : List (List ℕ) → Option CommandValue
-asked_by words = command_of words
-
--- how a call with such words ends
+-- how a call ends whose words ask for this, None where they are not lawful
 abbrev pub ends_with : Bool → Option (List NamedBytes) → Option (List ℕ) → Option CommandValue → Known Outcome
 ends_with honest files left None = Given not_lawful
 ends_with honest files left (Some command) = ends_of honest files left command

@@ -8,12 +8,13 @@ ghost use Rattle.command_steps.specs.Ends.{IsOr};
 ghost use Rattle.command_steps.specs.Known.{Given, EndsAs};
 ghost use Rattle.command_steps.specs.Loading.{script_limit, file_limit, table_named, run_for, IsLongFile};
 ghost use Rattle.command_steps.specs.Migrating.{checked, migrated, made, IsOfOutput};
+ghost use Rattle.command_words.specs.Commands.{command_of};
 ghost use Rattle.command_words.specs.Values.{command_value, IsInRange};
 ghost use Rattle.workload.specs.Workload.{workload};
 ghost use Rattle.ftpp_top.specs.Audited.{Judged};
 ghost use Rattle.ftpp_top.specs.Carries.{Carries};
 ghost use Rattle.ftpp_top.specs.Causes.{Causes};
-ghost use Rattle.ftpp_top.specs.Commands.{ends_by, ends_with, carried_with, node_for, node_with, audit_for, audited_with, asked_by, reads, loads, carries, is_node};
+ghost use Rattle.ftpp_top.specs.Commands.{ends_by, ends_with, carried_with, node_for, node_with, audit_for, audited_with, reads, loads, carries, is_node};
 ghost use Rattle.ftpp_top.specs.RunOutputs.{writes};
 ghost use Rattle.ftpp_top.specs.Served.{Served};
 
@@ -185,9 +186,7 @@ fn answer<R: Threads + Sync, S: Source, K: Sink, H: Shelf, F: Fabric, G: Gate>(
     // The frames that were carried are those of the run.
     ensures carried { IsTrue (F.honest fabric.old) → Carries (carried_with (H.files shelf.old) (S.left input.old) (Some (command_value command.entry))) result (F.told fabric.old) (F.told fabric.new) }
 
-    // Words that are not lawful are refused, and only these.
-    ensures usage { (Some (command_value command.entry)) ≡ None → IsOr Usage result }
-    ensures lawful { result ≡ Usage → (Some (command_value command.entry)) ≡ None }
+    ensures lawful { result ≡ Usage → ⊥ }
 
     // What a command does not use stays.
     ensures unread { reads (Some (command_value command.entry)) ≡ false → input.new ≡ input.old }
@@ -251,27 +250,27 @@ pub fn top<R: Threads + Sync, S: Source, K: Sink, H: Shelf, F: Fabric, G: Gate>(
     out: &mut K,
 ) -> Status
     // The words, and what the shelf and the source tell, decide what is answered and written.
-    ensures told { EndsAs (ends_with (F.honest fabric.old) (H.files shelf.old) (S.left input.old) (asked_by (map string_bytes words.now))) result (K.written out.old) (K.written out.new) }
+    ensures told { EndsAs (ends_with (F.honest fabric.old) (H.files shelf.old) (S.left input.old) (command_of (map string_bytes words.now))) result (K.written out.old) (K.written out.new) }
     // `audit` writes the verdict on the trace.
-    ensures audited { Judged (audited_with (H.files shelf.old) (S.left input.old) (asked_by (map string_bytes words.now))) result (K.written out.old) (K.written out.new) }
+    ensures audited { Judged (audited_with (H.files shelf.old) (S.left input.old) (command_of (map string_bytes words.now))) result (K.written out.old) (K.written out.new) }
     // `node` writes the node text of what it reads.
-    ensures served { Served (node_with (H.files shelf.old) (asked_by (map string_bytes words.now))) result (S.left input.old) (S.left input.new) (K.written out.old) (K.written out.new) }
+    ensures served { Served (node_with (H.files shelf.old) (command_of (map string_bytes words.now))) result (S.left input.old) (S.left input.new) (K.written out.old) (K.written out.new) }
     // The frames that were carried are those of the run.
-    ensures carried { IsTrue (F.honest fabric.old) → Carries (carried_with (H.files shelf.old) (S.left input.old) (asked_by (map string_bytes words.now))) result (F.told fabric.old) (F.told fabric.new) }
+    ensures carried { IsTrue (F.honest fabric.old) → Carries (carried_with (H.files shelf.old) (S.left input.old) (command_of (map string_bytes words.now))) result (F.told fabric.old) (F.told fabric.new) }
 
     // Words that are not lawful are refused, and only these.
-    ensures usage { (asked_by (map string_bytes words.now)) ≡ None → IsOr Usage result }
-    ensures lawful { result ≡ Usage → (asked_by (map string_bytes words.now)) ≡ None }
+    ensures usage { (command_of (map string_bytes words.now)) ≡ None → IsOr Usage result }
+    ensures lawful { result ≡ Usage → (command_of (map string_bytes words.now)) ≡ None }
 
     // What a command does not use stays.
-    ensures unread { reads (asked_by (map string_bytes words.now)) ≡ false → input.new ≡ input.old }
-    ensures unloaded { loads (asked_by (map string_bytes words.now)) ≡ None → shelf.new ≡ shelf.old }
-    ensures uncarried { carries (asked_by (map string_bytes words.now)) ≡ false → fabric.new ≡ fabric.old }
-    ensures unserved { result ≡ Memory → is_node (asked_by (map string_bytes words.now)) ≡ true → input.new ≡ input.old }
+    ensures unread { reads (command_of (map string_bytes words.now)) ≡ false → input.new ≡ input.old }
+    ensures unloaded { loads (command_of (map string_bytes words.now)) ≡ None → shelf.new ≡ shelf.old }
+    ensures uncarried { carries (command_of (map string_bytes words.now)) ≡ false → fabric.new ≡ fabric.old }
+    ensures unserved { result ≡ Memory → is_node (command_of (map string_bytes words.now)) ≡ true → input.new ≡ input.old }
 
     // What is done read the source to its end.
-    ensures whole { result ≡ Done → reads (asked_by (map string_bytes words.now)) ≡ true → IfSome (S.left input.new) (λ bytes. bytes ≡ []) }
-    ensures too_long { result ≡ TooLong → (S.taken input.new ≡ raised (S.taken input.old) (script_limit + 1)) ⊎ IsLongFile (H.files shelf.old) (loads (asked_by (map string_bytes words.now))) }
+    ensures whole { result ≡ Done → reads (command_of (map string_bytes words.now)) ≡ true → IfSome (S.left input.new) (λ bytes. bytes ≡ []) }
+    ensures too_long { result ≡ TooLong → (S.taken input.new ≡ raised (S.taken input.old) (script_limit + 1)) ⊎ IsLongFile (H.files shelf.old) (loads (command_of (map string_bytes words.now))) }
 
     // When faults and want of memory come.
     ensures read { result ≡ Read → Rose (S.faults input.old) (S.faults input.new) ⊎ Rose (H.faults shelf.old) (H.faults shelf.new) }

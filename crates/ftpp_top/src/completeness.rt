@@ -4,7 +4,8 @@
 ghost use Rattle.std.specs.Prelude.{◌≡◌, ◌-◌, ◌^◌, ◌<◌, None, map, string_bytes};
 ghost use Rattle.ftpp_outside.specs.Told.{Rose};
 ghost use Rattle.command_steps.specs.declared.status.Status.TheVariants.{Read, Write};
-ghost use Rattle.ftpp_top.specs.Commands.{asked_by, loads};
+ghost use Rattle.command_words.specs.Commands.{command_of};
+ghost use Rattle.ftpp_top.specs.Commands.{loads};
 ghost use Rattle.ftpp_top.specs.Completeness.{DoneIfNoneFails, AuditedIfNoneFails, ServedIfNoneFails};
 
 use crate::call::top;
@@ -36,7 +37,7 @@ pub fn top_over_steady_bytes<R: Threads + Sync, H: Shelf, F: Fabric, G: Gate>(
     requires { H.faults shelf.old < 2 ^ 64 - 1 }
     ensures write { result ≡ Write → ⊥ }
     ensures read { result ≡ Read → Rose (H.faults shelf.old) (H.faults shelf.new) }
-    ensures unloaded { loads (asked_by (map string_bytes words.now)) ≡ None → result ≡ Read → ⊥ }
+    ensures unloaded { loads (command_of (map string_bytes words.now)) ≡ None → result ≡ Read → ⊥ }
 {
     top(rt, alloc, words, input, shelf, fabric, gate, out)
 }

@@ -1,3 +1,4 @@
+use Rattle.whole_run.proofs.LogOrder.{each_run_hands_log_in_order}
 use Rattle.whole_run.proofs.RunsLawful.{each_cycle_lawful}
 use Rattle.whole_run.proofs.ServiceLaw.{runs_serve_in_time}
 use Rattle.whole_run.proofs.SkewRun.{no-loss}
@@ -11,4 +12,5 @@ returns g c =
       cycles = λ k l. each_cycle_lawful v.first v.journal k h.valid h.inputs l;
       served = runs_serve_in_time v.first h.faulty v.journal h.valid h.journal;
       kept = λ faulty group shape alike. no-loss v.first v.journal faulty group h.valid shape h.inputs alike;
+      ordered = each_run_hands_log_in_order v.first v.journal h.valid h.inputs;
     }
