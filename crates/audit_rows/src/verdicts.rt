@@ -1,0 +1,281 @@
+ghost use Rattle.std.specs.Prelude.{◌≡◌, IfSome};
+
+use crate::traces::{Cycle, Flip, IDLE, trace};
+use config_table::{Group, Table};
+use ftpp_base::{Ne, Round};
+use script_text::ScriptError;
+use std::alloc::Global;
+use std::test::Fail;
+use trace_audit::{Verdict, audit_text};
+
+/// What an audit says. A round is given by its place, 0 to 3.
+#[derive(Clone, Copy, Debug, PartialEq, Eq)]
+enum Said {
+    /// After so many cycles.
+    Follows(u32),
+    /// In a cycle and a round, from one element to another.
+    Breaks(u32, usize, u8, u8),
+    /// A line and its code.
+    Refused(u32, u8),
+    /// It was not asked, or gave another answer.
+    Nothing,
+}
+
+/// The built-in table of four elements.
+fn four_elements() -> Option<Table>
+    ensures { IfSome result (λ t. t.n ≡ 4) }
+{
+    let groups = [
+        Group::usual(1, &[(0, 0), (1, 0), (2, 0), (3, 0)]),
+        Group::usual(2, &[(0, 1), (1, 1), (2, 1)]),
+        Group::usual(3, &[(1, 2), (2, 2), (3, 2)]),
+        Group::usual(4, &[(3, 1)]),
+        Group::usual(5, &[(0, 3)]),
+    ];
+    let table = Table::new(4, 1, &groups).ok()?;
+    if table.n() == 4 { Some(table) } else { None }
+}
+
+fn place_of(round: Round) -> usize {
+    match round {
+        Round::A1 => 0,
+        Round::A2 => 1,
+        Round::B1 => 2,
+        Round::B2 => 3,
+    }
+}
+
+/// A verdict as it is compared.
+fn said_by(verdict: Result<Verdict, ScriptError>) -> Said {
+    match verdict {
+        Ok(Verdict::Follows { cycles }) => Said::Follows(cycles),
+        Ok(Verdict::Breaks { at, from, to }) => {
+            Said::Breaks(at.cycle, place_of(at.round), from.byte(), to.byte())
+        }
+        Err(ScriptError::At { line, code }) => Said::Refused(line, code),
+        Err(_) => Said::Nothing,
+    }
+}
+
+/// What the audit says of a text for the element of that number, or for none from 4 on.
+fn audited(bytes: &[u8], named: u8) -> Said {
+    if bytes.len() > 8_388_608 {
+        return Said::Nothing;
+    }
+    match four_elements() {
+        Some(table) => said_by(audit_text::<4>(bytes, &table, Ne::new(named, 4))),
+        None => Said::Nothing,
+    }
+}
+
+/// No element.
+const NONE: u8 = 4;
+
+/// Element 3 echoes to 1 another pattern of 0 than it has: this is found, unless 3 is named.
+#[test]
+fn a_false_echo_is_found(rt: HostRuntime) -> Result<(), Fail> {
+    let echo = Flip {
+        round: 1,
+        from: 3,
+        to: 1,
+        at: 7,
+        bits: 1,
+    };
+    let text = trace(rt.alloc(), &[IDLE], &Some(echo))?;
+    for (named, wanted) in [
+        (3, Said::Follows(1)),
+        (NONE, Said::Breaks(0, 1, 3, 1)),
+        (0, Said::Breaks(0, 1, 3, 1)),
+        (1, Said::Breaks(0, 1, 3, 1)),
+    ] {
+        assert_eq!(rt; audited(text.as_slice(), named), wanted, "{named}");
+    }
+    Ok(())
+}
+
+/// Whether a bit that is turned in the frame of a link is found at that frame, and whether it is free for its sender: in A1 the
+/// receiver's echo shows that it had another frame, and in an idle cycle nothing of B1 is echoed.
+fn is_found(alloc: Global, flip: Flip) -> Result<bool, Fail> {
+    let text = trace(alloc, &[IDLE], &Some(flip))?;
+    let bytes = text.as_slice();
+    let here = Said::Breaks(0, flip.round, flip.from, flip.to);
+    let free = if flip.round == 0 {
+        Said::Breaks(0, 1, flip.to, if flip.to == 0 { 1 } else { 0 })
+    } else {
+        Said::Follows(1)
+    };
+    let other = (flip.from % 4 + 1) % 4;
+    Ok(
+        audited(bytes, NONE) == here
+            && audited(bytes, other) == here
+            && audited(bytes, flip.from) == free,
+    )
+}
+
+#[test]
+fn a_turned_bit_is_found(rt: HostRuntime) -> Result<(), Fail> {
+    for round in 0..4 {
+        for place in 0..16u8 {
+            let (from, to) = (place / 4, place % 4);
+            for at in [0, 4, 5, 33, 38] {
+                let flip = Flip {
+                    round,
+                    from,
+                    to,
+                    at,
+                    bits: 0x10,
+                };
+                let is_right = from == to || is_found(rt.alloc(), flip)?;
+                assert!(rt; is_right, "round {round} from {from} to {to} at {at}");
+            }
+        }
+    }
+    Ok(())
+}
+
+/// A cycle in which an output waits, and perhaps an element sends a packet.
+fn cycle(waits: [u8; 5], sends: Option<(u8, u8)>) -> Cycle {
+    Cycle {
+        waits: Some(waits),
+        sends,
+    }
+}
+
+/// A request stays until it is served, and its sender sends exactly then. What stood is known from the cycle before.
+#[test]
+fn requests_stand(rt: HostRuntime) -> Result<(), Fail> {
+    let source = [3, 1, 3, 2, 0];
+    let third = [0, 1, 3, 1, 0];
+    let served = cycle(source, Some((3, 0x0f)));
+    let kept = cycle(source, None);
+    let waiting = cycle(third, None);
+    for (place, (cycles, wanted)) in [
+        ([IDLE, served, IDLE], Said::Follows(3)),
+        ([IDLE, served, served], Said::Follows(3)),
+        ([IDLE, kept, IDLE], Said::Breaks(1, 2, 3, 0)),
+        ([waiting, waiting, waiting], Said::Follows(3)),
+        ([waiting, IDLE, IDLE], Said::Breaks(1, 0, 0, 1)),
+        ([waiting, served, waiting], Said::Breaks(1, 0, 0, 1)),
+        (
+            [waiting, cycle([0, 1, 3, 2, 0], None), waiting],
+            Said::Breaks(1, 0, 0, 1),
+        ),
+        (
+            [IDLE, cycle(source, Some((2, 0x0f))), IDLE],
+            Said::Breaks(1, 2, 2, 0),
+        ),
+    ]
+    .iter()
+    .enumerate()
+    {
+        let text = trace(rt.alloc(), cycles, &None)?;
+        assert_eq!(rt; audited(text.as_slice(), NONE), *wanted, "case {place}");
+    }
+    Ok(())
+}
+
+/// The text without one of its lines, counted from 1.
+fn without_line(alloc: Global, text: &[u8], number: usize) -> Result<Vec<u8>, Fail> {
+    let mut kept = Vec::new(alloc);
+    let mut line = 1usize;
+    for byte in text {
+        if line != number {
+            kept.push(*byte)?;
+        }
+        if *byte == b'\n' {
+            line = line.saturating_add(1);
+        }
+    }
+    Ok(kept)
+}
+
+/// What the audit says of the first bytes of a text.
+fn said_of_first(text: &[u8], count: usize) -> Said {
+    audited(&text[..count.min(text.len())], NONE)
+}
+
+#[test]
+fn lines_are_in_their_places(rt: HostRuntime) -> Result<(), Fail> {
+    let two = trace(rt.alloc(), &[IDLE, IDLE], &None)?;
+    let text = two.as_slice();
+    let size = text.len();
+    for (number, line, code) in [
+        (1, 1, 12),
+        (2, 2, 12),
+        (48, 48, 12),
+        (49, 49, 12),
+        (95, 95, 12),
+        (96, 96, 13),
+    ] {
+        let rest = without_line(rt.alloc(), text, number)?;
+        assert_eq!(rt;
+            audited(rest.as_slice(), NONE),
+            Said::Refused(line, code),
+            "{number}"
+        );
+    }
+    // the first line has 93 bytes, 15 of them before its digits, and a cycle 13,104
+    for (count, wanted) in [
+        (0, Said::Refused(1, 13)),
+        (5, Said::Refused(1, 12)),
+        (14, Said::Refused(1, 12)),
+        (15, Said::Refused(1, 12)),
+        (16, Said::Refused(1, 12)),
+        (17, Said::Refused(1, 13)),
+        (93, Said::Refused(1, 13)),
+        (94, Said::Refused(2, 13)),
+        (95, Said::Refused(2, 12)),
+        (size / 2, Said::Follows(1)),
+        (size / 2 - 1, Said::Follows(1)),
+        (size / 2 - 2, Said::Refused(48, 12)),
+        (size / 2 - 3, Said::Breaks(0, 3, 3, 2)),
+        (size / 2 + 1, Said::Refused(49, 12)),
+        (size / 2 + 94, Said::Refused(50, 13)),
+        (size - 1, Said::Follows(2)),
+        (size, Said::Follows(2)),
+    ] {
+        assert_eq!(rt; said_of_first(text, count), wanted, "{count}");
+    }
+    Ok(())
+}
+
+#[test]
+fn lines_are_spelled_exactly(rt: HostRuntime) -> Result<(), Fail> {
+    for (short, line, code) in [
+        ("\n", 1, 12),
+        ("frame 0 A1 0 1 -", 1, 13),
+        ("frame 0 A1 0 1 -\n", 2, 13),
+        ("frame 0 A1 0 1 Af\nframe 0 A1 0 2 -\n\n", 3, 12),
+        ("frame 0 A1 0 1 a\n", 1, 12),
+        ("frame 0 A1 0 1 \n", 1, 12),
+        ("frame 0 A1 0 1\n", 1, 12),
+        ("frame  0 A1 0 1 -\n", 1, 12),
+        ("frame 00 A1 0 1 -\n", 1, 12),
+        ("frame 0 A1 1 0 -\n", 1, 12),
+        ("frame 0 a1 0 1 -\n", 1, 12),
+        ("frame 0 A1 0 1 - \n", 1, 12),
+        ("frame 0 A1 0 1 -\r\n", 1, 12),
+        (" frame 0 A1 0 1 -\n", 1, 12),
+        ("frame 0 A1 0 1 0g\n", 1, 12),
+        ("frame 0 A1 0 1 --\n", 1, 12),
+        ("# frame\n", 1, 12),
+    ] {
+        assert_eq!(rt;
+            audited(short.as_bytes(), NONE),
+            Said::Refused(line, code),
+            "{short}"
+        );
+    }
+    // a frame of 331 bytes, and of one digit or byte more
+    for (digits, wanted) in [
+        (662, Said::Refused(2, 13)),
+        (663, Said::Refused(1, 12)),
+        (664, Said::Refused(1, 12)),
+    ] {
+        let mut text = Vec::from_slice(rt.alloc(), b"frame 0 A1 0 1 ")?;
+        text.resize(15 + digits, b'0')?;
+        text.push(b'\n')?;
+        assert_eq!(rt; audited(text.as_slice(), NONE), wanted, "{digits}");
+    }
+    Ok(())
+}
