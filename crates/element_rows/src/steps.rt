@@ -15,7 +15,7 @@ use std::test::*;
 use syndrome_log::Syndrome;
 
 /// What an element tells of a cycle.
-#[derive(Debug, PartialEq, Eq, Drop)]
+#[derive(PartialEq, Eq, Drop)]
 struct Told {
     cycle: u32,
     shown: [u16; 4],
@@ -123,6 +123,14 @@ fn wanted(case: &Case, me: Ne) -> Option<Told> {
     })
 }
 
+/// Whether an element tells what is wanted.
+fn tells_as_wanted(element: &Element<4>, case: &Case, me: Ne) -> bool {
+    match (tells(element), wanted(case, me)) {
+        (Some(told), Some(wanted)) => told == wanted,
+        _ => false,
+    }
+}
+
 #[test]
 fn cycles_end_by_the_rules(rt: HostRuntime) -> Result<(), Fail> {
     for case in CASES {
@@ -130,9 +138,8 @@ fn cycles_end_by_the_rules(rt: HostRuntime) -> Result<(), Fail> {
         for seat in &seats {
             let me = seat.element.me();
             if me.byte() != case.faulty {
-                let told = tells(&seat.element).ok_or("no record")?;
-                let wanted = wanted(case, me).ok_or("wanted")?;
-                assert_eq!(rt; told, wanted, "{} at {}", case.name, me.byte());
+                let is_told = tells_as_wanted(&seat.element, case, me);
+                assert!(rt; is_told, "{} at {}", case.name, me.byte());
             }
         }
     }

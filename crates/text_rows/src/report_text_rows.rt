@@ -17,7 +17,7 @@ fn texts_of_cycles(rt: HostRuntime) -> Result<(), Fail> {
         let (acts, report) = report_of(case).ok_or("a report")?;
         out.clear();
         shown(case.rejoin, &acts, &report, &mut totals, &mut out).ok_or("its rows")?;
-        assert_eq!(rt; out.bytes(), case.text.as_bytes(), "at {}", case.text);
+        assert!(rt; out.bytes() == case.text.as_bytes(), "at {}", case.text);
     }
     out.clear();
     end_text(&totals, &mut out);

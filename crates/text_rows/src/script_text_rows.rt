@@ -1,6 +1,6 @@
 use config_table::{Group, Table};
 use fault_script::EditKind;
-use script_text::{ScriptError, print_script, read_script};
+use script_text::{Script, ScriptError, print_script, read_script};
 use std::alloc::{AllocError, Global};
 use std::test::Fail;
 
@@ -10,16 +10,21 @@ fn five_elements() -> Option<Table> {
     Table::new(5, 1, &[manager]).ok()
 }
 
-/// The refused line and its code; zeros where the script is read.
-fn refusal(rt: &HostRuntime, text: &[u8]) -> Result<(u32, u8), Fail> {
-    let table = five_elements().ok_or("no table")?;
+/// What comes of reading a script of five elements, if it is no longer than those here.
+fn read(alloc: Global, text: &[u8]) -> Option<Result<Script, ScriptError>> {
+    let table = five_elements()?;
     if text.len() > 20_000 {
-        return Err("too long".into());
+        return None;
     }
-    match read_script(rt.alloc(), text, &table) {
-        Ok(_) => Ok((0, 0)),
-        Err(ScriptError::At { line, code }) => Ok((line, code)),
-        Err(ScriptError::Memory) => Err("no memory".into()),
+    Some(read_script(alloc, text, &table))
+}
+
+/// The refused line and its code; zeros where the script is read.
+fn refusal(alloc: Global, text: &[u8]) -> Option<(u32, u8)> {
+    match read(alloc, text)? {
+        Ok(_) => Some((0, 0)),
+        Err(ScriptError::At { line, code }) => Some((line, code)),
+        Err(ScriptError::Memory) => None,
     }
 }
 
@@ -212,48 +217,71 @@ static LONG_TEXTS: [(&[u8], &[u8], usize, &[u8], u32, u8); 12] = [
 
 #[test]
 fn refuses_the_first_line_with_its_first_code(rt: HostRuntime) -> Result<(), Fail> {
-    for (text, line, code) in TEXTS.iter() {
-        assert_eq!(rt; refusal(&rt, text)?, (*line, *code));
+    for (place, (text, line, code)) in TEXTS.iter().enumerate() {
+        assert!(rt; refusal(rt.alloc(), text) == Some((*line, *code)), "text {place}");
     }
-    for (front, piece, count, back, line, code) in LONG_TEXTS.iter() {
+    for (place, (front, piece, count, back, line, code)) in LONG_TEXTS.iter().enumerate() {
         let text = repeated(rt.alloc(), front, piece, *count, back)?;
-        assert_eq!(rt; refusal(&rt, text.as_slice())?, (*line, *code));
+        assert!(rt;
+            refusal(rt.alloc(), text.as_slice()) == Some((*line, *code)),
+            "long text {place}"
+        );
     }
     Ok(())
 }
 
+/// A script of each kind of line, and how it is printed.
+const LINES: &[u8] =
+    b"# a run\r\n\n cycles\t0010 \r\nfaulty 2\nat 3 flip A1 0 007 0F\nat 3 post 1.7 5 1 0 ff00A100\nat 3 read 0.0\nat 3 send any all -\nat 4 rejoin none\nat 5 read 2.1\r";
+
+const PRINTED: &[u8] =
+    b"cycles 10\nfaulty 2\nat 3 post 1.7 5 1 0 ff00a1\nat 3 read 0.0\nat 3 flip A1 0 7 0f\nat 3 send any all -\nat 4 rejoin none\nat 5 read 2.1\n";
+
+/// How a script is read: how many cycles, acts, edits and rejoins it has, and its first edit.
+fn counts(script: &Script) -> (u32, usize, usize, usize) {
+    (
+        script.cycles,
+        script.acts.len(),
+        script.edits.len(),
+        script.rejoins.len(),
+    )
+}
+
+/// Whether the first edit turns these bits.
+fn flips_first(script: &Script, at: u16, with: u8) -> bool {
+    match script.edits.first() {
+        Some(edit) => match edit.what {
+            EditKind::Flip { offset, bits } => offset == at && bits == with,
+            _ => false,
+        },
+        None => false,
+    }
+}
+
+/// Whether a script is printed so.
+fn is_printed(alloc: Global, script: &Script, wanted: &[u8]) -> bool {
+    match print_script(alloc, script) {
+        Ok(text) => text.as_slice() == wanted,
+        Err(_) => false,
+    }
+}
+
 #[test]
-fn reads_prints_and_names_its_errors(rt: HostRuntime) -> Result<(), Fail> {
-    let table = five_elements().ok_or("no table")?;
-    let text =
-        b"# a run\r\n\n cycles\t0010 \r\nfaulty 2\nat 3 flip A1 0 007 0F\nat 3 post 1.7 5 1 0 ff00A100\nat 3 read 0.0\nat 3 send any all -\nat 4 rejoin none\nat 5 read 2.1\r";
-    let script = read_script(rt.alloc(), text.as_slice(), &table)
-        .ok()
-        .ok_or("refused")?;
-    assert_eq!(rt; script.cycles, 10);
-    assert_eq!(rt; script.acts.len(), 3);
-    assert_eq!(rt; script.edits.len(), 2);
-    assert!(rt;
-        matches!(
-            script.edits[0].what,
-            EditKind::Flip {
-                offset: 7,
-                bits: 15
-            }
-        )
-    );
-    assert_eq!(rt; script.rejoins.len(), 1);
-    let printed = print_script(rt.alloc(), &script).ok().ok_or("not printed")?;
-    let wanted =
-        b"cycles 10\nfaulty 2\nat 3 post 1.7 5 1 0 ff00a1\nat 3 read 0.0\nat 3 flip A1 0 7 0f\nat 3 send any all -\nat 4 rejoin none\nat 5 read 2.1\n";
-    assert_eq!(rt; printed.as_slice(), wanted.as_slice());
-    assert_eq!(rt;
-        format!(in rt.alloc(); "{}", ScriptError::At { line: 1, code: 2 })?.as_str(),
-        "At"
-    );
-    assert_eq!(rt;
-        format!(in rt.alloc(); "{}", ScriptError::Memory)?.as_str(),
-        "Memory"
-    );
+fn reads_and_prints(rt: HostRuntime) -> Result<(), Fail> {
+    let script = read(rt.alloc(), LINES).ok_or("too long")?.ok().ok_or("refused")?;
+    assert!(rt; counts(&script) == (10, 3, 2, 1));
+    assert!(rt; flips_first(&script, 7, 15));
+    assert!(rt; is_printed(rt.alloc(), &script, PRINTED));
+    Ok(())
+}
+
+#[test]
+fn errors_read_as_their_names(rt: HostRuntime) -> Result<(), Fail> {
+    for (error, text) in [
+        (ScriptError::At { line: 1, code: 2 }, "At"),
+        (ScriptError::Memory, "Memory"),
+    ] {
+        assert!(rt; format!(in rt.alloc(); "{error}")?.as_str() == text);
+    }
     Ok(())
 }
