@@ -48,15 +48,22 @@ fn push_zeros(bytes: &mut Bytes, count: usize) {
     }
 }
 
+/// The entry of a port of an element, where this output waits.
+fn entry(waits: &[u8; 5], ne: u8, port: u8) -> [u8; 4] {
+    if waits[0] == ne && waits[1] == port {
+        [3, waits[2], waits[3], waits[4]]
+    } else {
+        [2, 0, 0, 0]
+    }
+}
+
 /// Puts the cell of an element's pattern behind a frame.
 fn push_pattern(bytes: &mut Bytes, cycle: &Cycle, ne: u8) {
     push_all(bytes, &[1]);
     for port in 0..8u8 {
-        match cycle.waits {
-            Some([element, waiting, dest, class, source]) if element == ne && waiting == port => {
-                push_all(bytes, &[3, dest, class, source])
-            }
-            _ => push_all(bytes, &[2, 0, 0, 0]),
+        match &cycle.waits {
+            Some(waits) => push_all(bytes, &entry(waits, ne, port)),
+            None => push_all(bytes, &[2, 0, 0, 0]),
         }
     }
 }
@@ -151,12 +158,14 @@ fn push_sender(
 /// The text of a trace of at most ten cycles.
 pub(crate) fn trace(alloc: Global, cycles: &[Cycle], flip: &Option<Flip>) -> Result<Vec<u8>, Fail> {
     let mut text = Vec::new(alloc);
-    for (number, cycle) in cycles.iter().enumerate() {
+    let mut number = 0u8;
+    for cycle in cycles {
         for round in 0..4 {
             for from in 0..4u8 {
-                push_sender(&mut text, cycle, number as u8, round, from, flip)?;
+                push_sender(&mut text, cycle, number, round, from, flip)?;
             }
         }
+        number = number.saturating_add(1);
     }
     Ok(text)
 }

@@ -46,14 +46,20 @@ fn place_of(round: Round) -> usize {
 }
 
 /// A verdict as it is compared.
-fn said_by(verdict: Result<Verdict, ScriptError>) -> Said {
+fn of_verdict(verdict: &Verdict) -> Said {
     match verdict {
-        Ok(Verdict::Follows { cycles }) => Said::Follows(cycles),
-        Ok(Verdict::Breaks { at, from, to }) => {
+        Verdict::Follows { cycles } => Said::Follows(*cycles),
+        Verdict::Breaks { at, from, to } => {
             Said::Breaks(at.cycle, place_of(at.round), from.byte(), to.byte())
         }
-        Err(ScriptError::At { line, code }) => Said::Refused(line, code),
-        Err(_) => Said::Nothing,
+    }
+}
+
+/// A refusal as it is compared.
+fn of_refusal(error: &ScriptError) -> Said {
+    match error {
+        ScriptError::At { line, code } => Said::Refused(*line, *code),
+        ScriptError::Memory => Said::Nothing,
     }
 }
 
@@ -62,9 +68,12 @@ fn audited(bytes: &[u8], named: u8) -> Said {
     if bytes.len() > 8_388_608 {
         return Said::Nothing;
     }
-    match four_elements() {
-        Some(table) => said_by(audit_text::<4>(bytes, &table, Ne::new(named, 4))),
-        None => Said::Nothing,
+    let Some(table) = four_elements() else {
+        return Said::Nothing;
+    };
+    match audit_text::<4>(bytes, &table, Ne::new(named, 4)) {
+        Ok(verdict) => of_verdict(&verdict),
+        Err(error) => of_refusal(&error),
     }
 }
 

@@ -1,5 +1,7 @@
 //! That a node reads no byte before it wrote all that is due before it.
 
+ghost use Rattle.std.specs.Prelude.{◌<◌, ◌^◌};
+
 use crate::bench::four_elements;
 use element_node::{NodeEnd, serve_node};
 use ftpp_base::Ne;
