@@ -208,6 +208,7 @@ fn lines_are_in_their_places(rt: HostRuntime) -> Result<(), Fail> {
     let two = trace(rt.alloc(), &[IDLE, IDLE], &None)?;
     let text = two.as_slice();
     let size = text.len();
+    let half = size / 2;
     for (number, line, code) in [
         (1, 1, 12),
         (2, 2, 12),
@@ -234,13 +235,13 @@ fn lines_are_in_their_places(rt: HostRuntime) -> Result<(), Fail> {
         (93, Said::Refused(1, 13)),
         (94, Said::Refused(2, 13)),
         (95, Said::Refused(2, 12)),
-        (size / 2, Said::Follows(1)),
-        (size / 2 - 1, Said::Follows(1)),
-        (size / 2 - 2, Said::Refused(48, 12)),
-        (size / 2 - 3, Said::Breaks(0, 3, 3, 2)),
-        (size / 2 + 1, Said::Refused(49, 12)),
-        (size / 2 + 94, Said::Refused(50, 13)),
-        (size - 1, Said::Follows(2)),
+        (half, Said::Follows(1)),
+        (half.saturating_sub(1), Said::Follows(1)),
+        (half.saturating_sub(2), Said::Refused(48, 12)),
+        (half.saturating_sub(3), Said::Breaks(0, 3, 3, 2)),
+        (half.saturating_add(1), Said::Refused(49, 12)),
+        (half.saturating_add(94), Said::Refused(50, 13)),
+        (size.saturating_sub(1), Said::Follows(2)),
         (size, Said::Follows(2)),
     ] {
         assert_eq!(rt; said_of_first(text, count), wanted, "{count}");
