@@ -1,13 +1,49 @@
 //! What one element holds of an exchange, and what it makes of it.
 
-ghost use Rattle.std.specs.Prelude.{◌≡◌, ◌≢◌, ◌<◌, ◌≤◌, ◌^◌};
+ghost use Rattle.std.specs.Prelude.{◌≡◌, ◌≢◌, ◌↔◌, ℕ, ◌<◌, ◌≤◌, ◌^◌, IsTrue, option_copied, length, slice_index};
+ghost use Rattle.bit_vote.specs.Vote.{IsCell};
 ghost use Rattle.ftpp_base.specs.Lists.{cell_at, each_below};
 ghost use Rattle.two_round.specs.Echoes.{no_echoes, with_copy, with_relayed, relayed_at, word_of, result_for, result_of};
 ghost use Rattle.two_round.specs.Agreement.{IsAgreed};
 
-use bit_vote::{Cells, vote_lanes};
+use bit_vote::{Cells, same_bytes, vote_lanes};
 use ftpp_base::{Ne, Row, Set8};
 use std::marker::Model;
+
+/// What every optional row is: a row of bytes of its width, or none.
+fn is_cell<const B: usize>(cell: &Option<[u8; B]>)
+    ensures { IsCell B cell.now }
+{
+    if let Some(row) = cell {
+        is_row(row);
+    }
+}
+
+/// What every row is: bytes, as many as it is wide.
+fn is_row<const B: usize>(row: &[u8; B])
+    ensures long { length row.now ≡ B }
+    ensures bytes { (k : ℕ) → slice_index row.now k < 256 }
+{
+    are_bytes(&row[..]);
+}
+
+/// What is in a slice of bytes.
+fn are_bytes(bytes: &[u8])
+    ensures { (k : ℕ) → slice_index bytes.now k < 256 }
+{
+    let _length = bytes.len();
+}
+
+/// Whether two optional rows are equal.
+fn is_same<const B: usize>(one: Option<&[u8; B]>, other: Option<&[u8; B]>) -> bool
+    ensures { IsTrue result ↔ (option_copied one.entry ≡ option_copied other.entry) }
+{
+    match (one, other) {
+        (Some(one), Some(other)) => same_bytes(one, other),
+        (None, None) => true,
+        _ => false,
+    }
+}
 
 /// What one element holds of an exchange in two rounds among `N` elements. A cell is an optional row of
 /// `B` bytes.
@@ -130,8 +166,44 @@ impl<const N: usize, const B: usize> TwoRound<N, B> {
         }
     }
 
-    /// The vote over the words of all elements but the source.
-    fn voted(&self, source: usize) -> Option<[u8; B]>
+    /// The own copy of a source.
+    fn own_copy(&self, source: usize) -> Option<[u8; B]>
+        requires { source < N }
+        ensures copy { result ≡ cell_at self.now.copies source }
+        ensures cell { IsCell B result }
+        ensures count { length self.now.copies ≡ N }
+    {
+        let copy = self.copies.get(source);
+        is_cell(&copy);
+        copy
+    }
+
+    /// Whether the word of an element about a source is the own copy.
+    fn is_own_copy(&self, of: usize, source: usize) -> bool
+        requires of { of < N }
+        requires source { source < N }
+        ensures { IsTrue result → word_of self.now source of ≡ cell_at self.now.copies source }
+    {
+        of == self.me.index() || is_same(self.relayed[of].row(source), self.copies.row(source))
+    }
+
+    /// Whether there are two elements or more, and the word of each but the source is the own copy.
+    fn is_alike(&self, source: usize) -> bool
+        requires { source < N }
+        ensures alike { IsTrue result → (k : ℕ) → k < N → k ≢ source → word_of self.now source k ≡ cell_at self.now.copies source }
+        ensures some { IsTrue result → 2 ≤ N }
+    {
+        let elements = self.copies.len();
+        for of in 0..elements {
+            if of != source && !self.is_own_copy(of, source) {
+                return false;
+            }
+        }
+        2 <= elements
+    }
+
+    /// The vote over the words of all elements but the source, counted bit by bit.
+    fn counted(&self, source: usize) -> Option<[u8; B]>
         requires { source < N }
         ensures { result ≡ result_for self.now source }
     {
@@ -143,6 +215,19 @@ impl<const N: usize, const B: usize> TwoRound<N, B> {
             }
         }
         vote_lanes(words.as_slice())
+    }
+
+    /// The vote over the words of all elements but the source. Where all words are the own copy, so is the vote,
+    /// and nothing is counted.
+    fn voted(&self, source: usize) -> Option<[u8; B]>
+        requires { source < N }
+        ensures { result ≡ result_for self.now source }
+    {
+        if self.is_alike(source) {
+            self.own_copy(source)
+        } else {
+            self.counted(source)
+        }
     }
 
     /// The result for a source: the vote over the words of all elements but the source. None exactly
