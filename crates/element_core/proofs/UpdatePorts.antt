@@ -16,7 +16,7 @@ use Rattle.table_update.specs.declared.Applied.TheVariants.{Done}
 use Rattle.table_update.specs.Updates.{formed, with_formed, all_members, ports_to_clear, updated, judged, applied_to, if_valid, table_after}
 use Rattle.element_ports.specs.Ports.{PortsValue, HasLimits, HasLimitsAt, CanGoOver, proc_at}
 use Rattle.element_core.specs.PortUpdates.{EachUpdateFits}
-use Rattle.element_core.proofs.UpdateLimits.{KeepsLimits, is_listed, limits-updated}
+use Rattle.table_update.proofs.LimitLaws.{KeepsLimits, is_listed, limits-updated}
 
 -- What an update that is done tells: the table that it gives is valid and the next one, and has the ports to clear.
 record IsDone (table new : TableValue) (update : Update) (procs : ArrayVec Proc) : Type 0 where

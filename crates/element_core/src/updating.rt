@@ -75,25 +75,12 @@ impl KeptState {
         match apply(&mut self.table, update) {
             Applied::Done(cleared) => {
                 self.scoreboard
-                    .after_update(&self.table, named_group(update));
+                    .after_update(&self.table, update.group());
                 self.ports.update(&self.table, cleared.as_slice());
                 Outcome3::Done
             }
             Applied::Refused(error) => Outcome3::Refused(error.code()),
             Applied::Absent => Outcome3::Absent,
         }
-    }
-}
-
-/// The number of the group that an update names.
-fn named_group(update: &Update) -> u8
-    ensures { result ≡ named_group update.now }
-{
-    match update {
-        Update::Mask { vid, .. }
-        | Update::Admit { vid, .. }
-        | Update::Timeouts { vid, .. }
-        | Update::Dissolve { vid }
-        | Update::Form { vid, .. } => *vid,
     }
 }

@@ -24,7 +24,8 @@ use Rattle.cluster.specs.ClusterValue.{ClusterValue, all_acted, made_frame, ende
 use Rattle.cluster.specs.Follows.{state_now, input_now, step_now}
 use Rattle.report_text.specs.Report.{report_told, cycle_lines}
 use Rattle.report_text.specs.Trace.{cycle_frames}
-use Rattle.report_text.specs.PlayedCycle.{Standing, slot_of, next_at, faulty_after, rejoined_by, acts_at, input_played, cycle_played, frame_between, told_at, rejoin_played}
+use Rattle.element_core.specs.Told.{told_at}
+use Rattle.report_text.specs.PlayedCycle.{Standing, slot_of, next_at, faulty_after, rejoined_by, acts_at, input_played, cycle_played, frame_between, rejoin_played}
 use Rattle.report_text.specs.PlayedRun.{standing_at, report_at, frames_at}
 use Rattle.report_text.specs.Laws.{SaysSame, IsPlayed, IsOfScript, IsReport, KeepsOn, made_of, kept_then, cell_by, relays_from}
 use Rattle.report_text.proofs.Alike.{prints_alike, adds_alike}

@@ -14,7 +14,8 @@ use Rattle.script_text.specs.Reading.{Plan}
 use Rattle.two_round.proofs.Agreement.{at_place}
 use Rattle.element_core.specs.Cycle.{State, Input, Shown, step, shown_by}
 use Rattle.element_core.specs.Sent.{frame_sent}
-use Rattle.report_text.specs.PlayedCycle.{Standing, slot_of, faulty_in, frame_played, read_played, cell_played, first_cells, relays_by, input_asked, with_patterns, input_played, cycle_played, frame_between, told_at, told_played, report_played}
+use Rattle.element_core.specs.Told.{told_at}
+use Rattle.report_text.specs.PlayedCycle.{Standing, slot_of, faulty_in, frame_played, read_played, cell_played, first_cells, relays_by, input_asked, with_patterns, input_played, cycle_played, frame_between, told_played, report_played}
 use Rattle.report_text.specs.Laws.{PlaysScript, IsPlayed, PlaysAsScript, cell_by, relays_from, ReportsAsScript}
 use Rattle.report_text.proofs.Repeated.{made_is}
 

@@ -23,7 +23,8 @@ use Rattle.report_text.specs.declared.totals.Totals.{Totals}
 use Rattle.report_text.specs.Report.{ReportTold, cycle_lines}
 use Rattle.report_text.specs.Sums.{with_report}
 use Rattle.report_text.specs.Trace.{cycle_frames}
-use Rattle.report_text.specs.PlayedCycle.{Standing, slot_of, faulty_in, rejoined_in, acts_at, input_played, cycle_played, first_standing, standing_after, frame_between, told_at, report_played}
+use Rattle.element_core.specs.Told.{told_at}
+use Rattle.report_text.specs.PlayedCycle.{Standing, slot_of, faulty_in, rejoined_in, acts_at, input_played, cycle_played, first_standing, standing_after, frame_between, report_played}
 use Rattle.report_text.specs.PlayedRun.{standing_at, journal_below, shown_in}
 
 -- ---- a played run is the run of its journal

@@ -1,7 +1,7 @@
 -- One cycle of a script: what its processors ask for, what the faulty element sends by the edits, what these frames read as, and so
 -- what the cycle shows.
 use Rattle.std.specs.Prelude.{ℕ, Bool, ◌==◌, List, [], ◌∷◌, map, filter, Option, Some, None, if◌then◌else◌}
-use Rattle.ftpp_base.specs.Lists.{each_below, cell_at, is_this}
+use Rattle.ftpp_base.specs.Lists.{each_below, is_this}
 use Rattle.ftpp_base.specs.declared.element.Round.{Round}
 use Rattle.ftpp_base.specs.declared.element.Round.TheVariants.{A1, A2, B1, B2}
 use Rattle.ftpp_base.specs.declared.element.Slot.{Slot}
@@ -13,8 +13,9 @@ use Rattle.fault_script.specs.Edited.{edited_frame}
 use Rattle.script_text.specs.Reading.{Plan}
 use Rattle.element_core.specs.Cycle.{State, Input, Shown, Cycle, start, step}
 use Rattle.element_core.specs.Sent.{frame_sent}
-use Rattle.element_core.specs.Syndromes.{Relays, syndromes_at}
+use Rattle.element_core.specs.Syndromes.{Relays}
 use Rattle.element_core.specs.ElementValue.{CycleTold}
+use Rattle.element_core.specs.Told.{told_at}
 use Rattle.element_core.specs.declared.Rejoined.{Rejoined}
 use Rattle.element_core.specs.declared.Rejoined.TheVariants.{Taken}
 use Rattle.report_text.specs.Report.{ReportTold}
@@ -165,17 +166,6 @@ frame_between plan before shown round from to =
     else frame_sent shown round from
 
 -- what an element tells
-abbrev pub told_at : Shown → Relays → ℕ → CycleTold
-told_at shown said me = record {
-  cycle = shown.cycle;
-  pattern = shown.pattern;
-  decision = shown.decision;
-  packet = cell_at shown.entries me;
-  handed = cell_at shown.handed me;
-  update = shown.update;
-  syndromes = syndromes_at shown said me;
-}
-
 abbrev pub told_played : Plan → Standing → Shown → ℕ → CycleTold
 told_played plan before shown me = told_at shown (relays_by plan before shown (faulty_in plan before) me) me
 

@@ -16,7 +16,7 @@ use Rattle.bit_vote.specs.Agreed.{copy_at}
 use Rattle.bit_vote.proofs.Majority.{same_cell-refl}
 use Rattle.two_round.proofs.Agreement.{at_place}
 use Rattle.two_round.proofs.Others.{IsSize}
-use Rattle.local_pattern.specs.Pattern.{entry_of, column_bytes}
+use Rattle.local_pattern.specs.Pattern.{entry_of, column_bytes, entry_bytes, read_entry}
 use Rattle.frame_format.specs.Frames.{frame_bytes, reads_as, decoded, first_cell, IsWide, IsOfOne, width_in, cells_in}
 use Rattle.frame_format.proofs.Decoded.{decoded-frame}
 use Rattle.config_table.specs.declared.decisions.Decision.{Decision}
@@ -24,35 +24,27 @@ use Rattle.config_table.specs.declared.decisions.Decision.TheVariants.{Idle, Dis
 use Rattle.config_table.specs.declared.decisions.Service.{Service}
 use Rattle.config_table.specs.Table.{TableValue}
 use Rattle.flag_vote.specs.Flags.{Pattern, voted_flags}
-use Rattle.scoreboard.specs.Choice.{scoreboard_decision}
-use Rattle.data_exchange.specs.Entries.{contributes, own_row, packet_of_head, senders}
-use Rattle.processor_buffers.specs.Queues.{Posted}
-use Rattle.element_core.specs.Processors.{head_at, entry_shown, column_shown}
-use Rattle.trace_audit.proofs.RunPorts.{entry-own}
-use Rattle.trace_audit.proofs.RunPorts.{deliveries-output}
-use Rattle.element_core.proofs.Sound.{size-table_after}
+use Rattle.scoreboard.specs.Choice.{scoreboard_decision, scoreboard_after}
+use Rattle.data_exchange.specs.Entries.{contributes, own_row, packet_of_head, senders, may_send, member_at}
+use Rattle.processor_buffers.specs.Queues.{Posted, first, Queues}
+use Rattle.element_core.specs.Processors.{head_at, entry_shown, column_shown, cleared, emptied_at}
+use Rattle.element_core.proofs.Outputs.{deliveries-output}
+use Rattle.element_core.proofs.PatternLaws.{entry-own, entry_shown-plain}
+use Rattle.element_core.proofs.Sound.{size-table_after, before_sound}
 use Rattle.scoreboard.specs.Board.{after_update}
-use Rattle.scoreboard.specs.Choice.{scoreboard_after}
 use Rattle.table_update.specs.declared.Update.{Update}
 use Rattle.table_update.specs.declared.Applied.{Applied}
 use Rattle.table_update.specs.declared.Applied.TheVariants as applied_variant
 use Rattle.table_update.specs.Updates.{applied, table_after, named_group}
 use Rattle.ftpp_base.specs.Sets.{has}
-use Rattle.data_exchange.specs.Entries.{may_send, member_at}
-use Rattle.element_core.specs.Cycle.{served, with_update, changed_by, after_service, after_deliveries}
-use Rattle.element_core.specs.Processors.{cleared, emptied_at}
-use Rattle.processor_buffers.specs.Queues.{first, Queues}
+use Rattle.element_core.specs.Cycle.{served, with_update, changed_by, after_service, after_deliveries, State, Input, step, shown_by, after_rejoin, pattern_sent, row_sent, update_packet, update_in}
 use Rattle.local_pattern.specs.declared.Entry.{Entry}
 use Rattle.packet_format.specs.declared.Packet.{Packet}
-use Rattle.local_pattern.specs.Pattern.{entry_bytes, read_entry}
-use Rattle.element_core.specs.Cycle.{State, Input, step, shown_by, after_rejoin, pattern_sent, row_sent, update_packet, update_in}
 use Rattle.config_table.specs.Kinds.{is_relayed}
 use Rattle.element_core.specs.Alone.{IsSound, IsInput, before_rounds}
 use Rattle.element_core.proofs.RoundShapes.{packet_shape}
 use Rattle.element_core.proofs.AloneLaws.{patterns_in, pattern_in, decision_in, packets_in, size_of}
-use Rattle.trace_audit.proofs.RunPorts.{entry_shown-plain}
-use Rattle.trace_audit.proofs.RunPorts.{Admitted, admitted_has}
-use Rattle.element_core.proofs.Sound.{before_sound}
+use Rattle.element_core.proofs.AdmittedMembers.{Admitted, admitted_has}
 use Rattle.trace_audit.specs.Known.{is_entry, keeps_head, Known, known_served, known_by, known_with, known_after, is_among, popped, Frames, slot_of, least_receiver, cell_told, own_told, heard_told, round_told, pattern_told, decision_told, update_told, shows_port, shows_ports, sends_packet, is_frame_with, copy_relayed, is_expected, AreExpected}
 use Rattle.trace_audit.specs.Laws.{AreFramesOf, IsKnown, request_of, Stands, CycleFollows}
 use Rattle.trace_audit.proofs.Rounds.{each_same, SameRounds, copy_same, pattern_same, packet_same}

@@ -6,7 +6,6 @@ pub mod RunLaw
 pub mod Earlier
 pub mod Columns
 pub mod Admitted
-pub mod RunPorts
 pub mod Ports
 pub mod WorkedTrace
 pub mod Others

@@ -152,23 +152,10 @@ impl<const N: usize> Watched<N> {
         match apply(&mut self.table, update) {
             Applied::Done(cleared) => {
                 self.scoreboard
-                    .after_update(&self.table, named_group(update));
+                    .after_update(&self.table, update.group());
                 self.standing = still_standing(&self.standing, cleared.as_slice());
             }
             Applied::Refused(_) | Applied::Absent => {}
         }
-    }
-}
-
-/// The number of the group that an update names.
-fn named_group(update: &Update) -> u8
-    ensures { result ≡ named_group update.now }
-{
-    match update {
-        Update::Mask { vid, .. }
-        | Update::Admit { vid, .. }
-        | Update::Timeouts { vid, .. }
-        | Update::Dissolve { vid }
-        | Update::Form { vid, .. } => *vid,
     }
 }

@@ -1,9 +1,9 @@
 -- Who holds a request by the agreed pattern, and so is admitted.
-use Rattle.std.proofs.Common.{◌≡◌, ℕ, ◌<◌, false, List, [], ◌∷◌, ap, arith, map, ◌∙◌, subst, inl, inr}
+use Rattle.std.proofs.Common.{◌≡◌, ◌<◌, false, List, [], ◌∷◌, ap, map, ◌∙◌, subst}
 use Rattle.std.specs.Prelude.{Option, Some, is_some, option_map, unwrap_or, ◌&&◌, filter}
 use Rattle.std.specs.List.{AllByRecursion}
 use Rattle.ftpp_base.specs.Lists.{is_this, is_in}
-use Rattle.ftpp_base.specs.Sets.{has, set_of}
+use Rattle.ftpp_base.specs.Sets.{has}
 use Rattle.ftpp_base.specs.declared.element.Proc.{Proc}
 use Rattle.ftpp_base.proofs.SetLaws.{has-set_where}
 use Rattle.packet_format.specs.declared.Descriptor.{Descriptor}
@@ -12,7 +12,7 @@ use Rattle.config_table.specs.declared.groups.Group.{Group}
 use Rattle.config_table.specs.declared.decisions.Service.{Service}
 use Rattle.config_table.specs.Groups.{live_members, elements_of}
 use Rattle.config_table.specs.Table.{TableValue, IsValid, group_named}
-use Rattle.flag_vote.specs.Flags.{Pattern, holds, holders, voted_descriptor, flags_of}
+use Rattle.flag_vote.specs.Flags.{Pattern, holds, voted_descriptor, flags_of}
 use Rattle.processor_buffers.specs.Queues.{Posted}
 use Rattle.data_exchange.specs.Entries.{member_at, common_head}
 use Rattle.element_core.specs.Processors.{AllQueues, head_at}
@@ -21,9 +21,9 @@ use Rattle.element_core.proofs.RoundShapes.{IsHead}
 use Rattle.config_table.proofs.ValidTable.{AreApart}
 use Rattle.config_table.proofs.NamedGroups.{AreApart-named, InRange, InRange-named, elements-kept}
 use Rattle.ftpp_base.proofs.Among.{all-both, each}
-use Rattle.whole_run.proofs.Heads.{entry-own}
+use Rattle.element_core.proofs.AdmittedMembers.{holds_set, below_eight}
+use Rattle.element_core.proofs.PatternLaws.{entry-own}
 use Rattle.data_exchange.proofs.AlikeEntry.{member_at-apart}
-use Rattle.two_round.proofs.Others.{IsSize}
 use Rattle.data_exchange.proofs.CommonHead.{common-all}
 
 -- ---- what the pattern says of a fault-free processor
@@ -36,21 +36,6 @@ holds_head table queues input proc head desc is good e =
     ∙ (λ i. is_some (e i) && same_descriptor (unwrap_or (option_map (λ posted. posted.0) (e i)) no_descriptor) desc)
 
 -- ---- the members that an exchange admits
-
--- the elements of those that hold the voted request
-pub holds_set : (pattern : Pattern) (g : Group) (desc : Descriptor) → voted_descriptor pattern g ≡ Some desc
-    → (flags_of pattern g).holds ≡ set_of (elements_of (filter (holds pattern desc) (live_members g)))
-unfolding flags_of
-holds_set pattern g desc e = ap (λ o. set_of (elements_of (holders pattern g o))) e
-
--- four or five are fewer than six
-pub small_by : (n : ℕ) → IsSize n → n < 6
-small_by n (inl e) = omega arith
-small_by n (inr e) = omega arith
-
--- an element is below eight
-pub below_eight : (n ne : ℕ) → n < 6 → ne < n → ne < 8
-below_eight n ne l m = omega arith
 
 -- a live member is admitted where it holds the request
 pub admitted_holds : (table : TableValue) (pattern : Pattern) (service : Service) (g : Group) → IsValid table → table.n < 6

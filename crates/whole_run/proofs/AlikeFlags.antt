@@ -23,7 +23,8 @@ use Rattle.scoreboard.specs.Service.{TakesBut}
 use Rattle.data_exchange.specs.Entries.{is_fault_free, fault_free_members, fault_free_majority}
 use Rattle.element_core.specs.Processors.{AllQueues, head_at, entry_shown}
 use Rattle.element_core.specs.Cycle.{Input, pattern_round, agreed_pattern}
-use Rattle.whole_run.proofs.Heads.{entry-own, head-holds}
+use Rattle.element_core.proofs.PatternLaws.{entry-own}
+use Rattle.whole_run.proofs.Heads.{head-holds}
 use Rattle.whole_run.proofs.QueueLaws.{live_member}
 
 -- ---- what a fault-free processor shows is agreed

@@ -1,7 +1,7 @@
 -- While two processors are fault-free live members of one group, they are handed the same.
 use Rattle.std.proofs.Common.{◌≡◌, ℕ, Bool, true, false, cond, [], refl, ap, sym, ◌∙◌, subst, find}
 use Rattle.std.specs.Prelude.{Option, Some, None, option_map, unwrap_or, not, nat_le, nat_lt, ◌&&◌, ◌==◌}
-use Rattle.std.specs.List.{AllByRecursion, filter}
+use Rattle.std.specs.List.{AllByRecursion}
 use Rattle.std.proofs.lemmas.Bool.{and_parts, ltb-true, leb-true}
 use Rattle.ftpp_base.specs.Lists.{cell_at}
 use Rattle.ftpp_base.specs.declared.element.Proc.{Proc}
@@ -17,12 +17,11 @@ use Rattle.config_table.proofs.NamedGroups.{IsGroupOf, IsGroupOf-valid}
 use Rattle.config_table.proofs.Procs.{same_proc-refl}
 use Rattle.config_table.proofs.ValidTable.{named-there}
 use Rattle.element_core.specs.Cycle.{State, Input, Shown, step, receivers, delivered_by}
-use Rattle.element_core.specs.Run.{Journal, LogEntry, history, state_at, input_at, shown_at}
+use Rattle.element_core.specs.Run.{Journal, LogEntry, state_at, input_at}
 use Rattle.element_core.specs.Alone.{IsSound, IsInput}
 use Rattle.element_core.proofs.SoundRuns.{sound_at}
-use Rattle.whole_run.specs.LogOrder.{handed_in, is_proc, is_receiver, overran, due_in, is_whole, IsServedMember, AreFellows, is_between, handed_between}
-use Rattle.whole_run.proofs.HandedIn.{handed-log}
-use Rattle.whole_run.proofs.LogHanded.{all_of_run, kept_alike, named_cycle, cycle_alike, entry_of, receiver_found, given_same, shown_table}
+use Rattle.whole_run.specs.LogOrder.{is_proc, is_receiver, overran, due_in, is_whole, IsServedMember, AreFellows, is_between, handed_between}
+use Rattle.whole_run.proofs.LogHanded.{run_alike, entry_of, receiver_found, given_same, shown_table}
 use Rattle.whole_run.proofs.OverrunLaws.{receives_found}
 
 -- ---- a member has one group
@@ -118,20 +117,11 @@ is_within from upto k = nat_le from k && nat_lt k upto
 pub fellows-equal : (table : TableValue) (journal : Journal) (vid from upto : ℕ) (one other : Proc) → IsValid table → AllByRecursion (IsInput table.n) journal
     → AreFellows table journal vid from upto one other → handed_between table journal from upto one ≡ handed_between table journal from upto other
 fellows-equal table journal vid from upto one other valid are fellows =
-    let test = is_between from upto in
-    kept_alike test (handed_in one) (handed_in other) (history table journal)
-    (all_of_run (λ shown. filter test (handed_in one shown) ≡ filter test (handed_in other shown)) table journal
-    (λ k l.
-    let s = state_at table journal k in
-    let input = input_at journal k in
-    let shown = shown_at table journal k in
+    run_alike (is_between from upto) (is_within from upto) table journal one other valid are (λ d k e. ap (is_within from upto) e)
+    (λ k l service e w.
     let at = sound_at table journal k valid are l in
-    ap (filter test) (handed-log s input one at.0 at.1)
-    ∙ cycle_alike test (is_within from upto k) one other shown shown.decision
-    (λ d e. ap (is_within from upto) (e ∙ named_cycle table journal k l))
-    (λ service e w.
     let bounds = and_parts (nat_le from k) (nat_lt k upto) w in
     let low = leb-true from k bounds.0 in
     let high = ltb-true k upto bounds.1 in
-    fellows_same s input service vid one other at.0 at.1 e (fellows.first k low high) (fellows.second k low high) (λ to. fellows.whole k service low high e to))
-    ∙ sym (ap (filter test) (handed-log s input other at.0 at.1))))
+    fellows_same (state_at table journal k) (input_at journal k) service vid one other at.0 at.1 e (fellows.first k low high) (fellows.second k low high)
+    (λ to. fellows.whole k service low high e to))

@@ -1,17 +1,17 @@
 -- What the agreed pattern says of fault-free members: exactly what their heads are.
-use Rattle.std.proofs.Common.{◌≡◌, ℕ, zero, suc, ◌<◌, Bool, true, false, cond, List, [], ◌∷◌, length, get_or, map, refl, ap, arith, sym, ◌∙◌, Contains, Option, Some, None, is_some, option_map, unwrap_or}
+use Rattle.std.proofs.Common.{◌≡◌, ℕ, ◌<◌, Bool, true, cond, List, [], ◌∷◌, length, map, refl, ap, arith, sym, ◌∙◌, Contains, Option, Some, None, is_some, option_map, unwrap_or}
 use Rattle.std.specs.Prelude.{◌&&◌}
 use Rattle.std.specs.List.{AllByRecursion, list_all}
 use Rattle.std.proofs.lemmas.Bool.{ltb-true, and_from}
 use Rattle.std.proofs.lemmas.List.Sums.{length-filter}
-use Rattle.ftpp_base.specs.Lists.{is_this, is_in}
+use Rattle.ftpp_base.specs.Lists.{is_in}
 use Rattle.ftpp_base.specs.Sets.{has, set_where}
 use Rattle.ftpp_base.specs.declared.element.Proc.{Proc}
 use Rattle.ftpp_base.proofs.SetLaws.{has-set_where}
 use Rattle.packet_format.specs.declared.Descriptor.{Descriptor}
 use Rattle.packet_format.specs.Packets.{same_descriptor, no_descriptor}
 use Rattle.local_pattern.specs.declared.Entry.{Entry}
-use Rattle.local_pattern.specs.Pattern.{entry_of, quiet}
+use Rattle.local_pattern.specs.Pattern.{entry_of}
 use Rattle.config_table.specs.declared.groups.Group.{Group}
 use Rattle.config_table.specs.Groups.{live_members, elements_of}
 use Rattle.config_table.specs.Table.{TableValue}
@@ -19,33 +19,11 @@ use Rattle.processor_buffers.specs.Queues.{Posted}
 use Rattle.flag_vote.specs.Flags.{Pattern, holds, flags_of, voted_descriptor, is_held_by_most, all_hold, holders, descriptor_of}
 use Rattle.packet_format.proofs.Descriptors.{same_descriptor-true, same_descriptor-refl}
 use Rattle.data_exchange.specs.Entries.{fault_free_members, fault_free_majority, is_fault_free, held_alike, common_head, is_head}
-use Rattle.element_core.specs.Processors.{AllQueues, head_at, entry_shown, column_shown}
-use Rattle.element_core.specs.Cycle.{Input, pattern_round, agreed_pattern}
-use Rattle.whole_run.proofs.PatternLaws.{agreed_pattern-own}
+use Rattle.element_core.specs.Processors.{AllQueues, head_at, entry_shown}
 use Rattle.ftpp_base.proofs.Among.{each, shared, contains-filter, find-passes}
 use Rattle.ftpp_base.proofs.Items.{item_pass, contains_item}
 use Rattle.config_table.proofs.Procs.{element_in}
 use Rattle.bit_vote.proofs.Majority.{same_cell-refl}
-
--- ---- the entry of a fault-free member
-
--- the entry of a port in the column of its element
-column_at : (table : TableValue) (all : AllQueues) (ne port : ℕ) → port < 8 → get_or (column_shown table all ne) port quiet ≡ entry_shown table all (record { ne = ne; port = port })
-column_at table all ne zero l = refl
-column_at table all ne (suc zero) l = refl
-column_at table all ne (suc (suc zero)) l = refl
-column_at table all ne (suc (suc (suc zero))) l = refl
-column_at table all ne (suc (suc (suc (suc zero)))) l = refl
-column_at table all ne (suc (suc (suc (suc (suc zero))))) l = refl
-column_at table all ne (suc (suc (suc (suc (suc (suc zero)))))) l = refl
-column_at table all ne (suc (suc (suc (suc (suc (suc (suc zero))))))) l = refl
-column_at table all ne (suc (suc (suc (suc (suc (suc (suc (suc port)))))))) l = let never : ⊥ = omega arith in absurd never
-
--- the agreed entry of a processor at a fault-free element is what its port shows
-pub entry-own : (table : TableValue) (all : AllQueues) (input : Input) (p : Proc) → p.ne < table.n → p.port < 8 → is_this input.faulty p.ne ≡ false
-    → entry_of (agreed_pattern table (pattern_round table all input)) p ≡ entry_shown table all p
-entry-own table all input p l w good =
-    ap (λ (column : List Entry). get_or column p.port quiet) (agreed_pattern-own table all input p.ne l good) ∙ column_at table all p.ne p.port w
 
 -- ---- holding a request is having a head that carries it
 

@@ -28,7 +28,8 @@ use Rattle.data_exchange.proofs.AlikeEntry.{IsAlike, entry-alike}
 use Rattle.element_core.proofs.AloneLaws.{pattern_in, decision_in, packets_in, size_of}
 use Rattle.element_core.proofs.DecisionLaws.{Serves, IfExchange, decision_serves}
 use Rattle.data_exchange.proofs.CommonHead.{common-all, alike_parts}
-use Rattle.whole_run.proofs.Admitted.{holds_head, admitted_holds, common-posted, small_by}
+use Rattle.element_core.proofs.AdmittedMembers.{small_by}
+use Rattle.whole_run.proofs.Admitted.{holds_head, admitted_holds, common-posted}
 use Rattle.data_exchange.proofs.FaultFree.{fault_free-live}
 use Rattle.whole_run.proofs.Heads.{voted-holder}
 use Rattle.element_core.proofs.RoundShapes.{IsHead, head_posted}

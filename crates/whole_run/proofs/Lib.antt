@@ -3,7 +3,6 @@ pub mod WorkedFaults
 pub mod WorkedSpace
 pub mod WorkedUpdates
 pub mod Accuracy
-pub mod PatternLaws
 pub mod WorkedElement
 pub mod NextQueues
 pub mod Heads

@@ -134,6 +134,24 @@ cycle_alike test b one other shown (Exchange service) dated same =
     ∙ kept_by b (cons_option (due_in one shown entry) []) (cons_option (due_in other shown entry) []) (λ e. ap (λ o. cons_option o []) (same service refl e))
     ∙ sym (dated_kept test (due_in other shown entry) b (due_dated test other shown entry b dated))
 
+-- Two that are given the same of each exchange whose cycle passes a test are handed the same that passes it in a run.
+pub run_alike : (test : Delivered → Bool) (passes : ℕ → Bool) (table : TableValue) (journal : Journal) (one other : Proc) → IsValid table → AllByRecursion (IsInput table.n) journal
+    → ((d : Delivered) (k : ℕ) → d.cycle ≡ k → test d ≡ passes k)
+    → ((k : ℕ) → k < length journal → (service : Service) → (shown_at table journal k).decision ≡ Exchange service → passes k ≡ true
+      → due_in one (shown_at table journal k) (entry_of (shown_at table journal k) service) ≡ due_in other (shown_at table journal k) (entry_of (shown_at table journal k) service))
+    → filter test (handed_of table journal one) ≡ filter test (handed_of table journal other)
+run_alike test passes table journal one other valid are dated same =
+    kept_alike test (handed_in one) (handed_in other) (history table journal)
+    (all_of_run (λ shown. filter test (handed_in one shown) ≡ filter test (handed_in other shown)) table journal
+    (λ k l.
+    let s = state_at table journal k in
+    let input = input_at journal k in
+    let shown = shown_at table journal k in
+    let at = sound_at table journal k valid are l in
+    ap (filter test) (handed-log s input one at.0 at.1)
+    ∙ cycle_alike test (passes k) one other shown shown.decision (λ d e. dated d k (e ∙ named_cycle table journal k l)) (same k l)
+    ∙ sym (ap (filter test) (handed-log s input other at.0 at.1))))
+
 -- ---- what both are given of an exchange
 
 -- a receiver is found at its element
@@ -216,16 +234,8 @@ common_same s input service one other sound is decided e =
 pub handed-alike : (table : TableValue) (journal : Journal) (one other : Proc) → IsValid table → AllByRecursion (IsInput table.n) journal
     → filter (is_shared table journal one other) (handed_of table journal one) ≡ filter (is_shared table journal one other) (handed_of table journal other)
 handed-alike table journal one other valid are =
-    let test = is_shared table journal one other in
-    kept_alike test (handed_in one) (handed_in other) (history table journal)
-    (all_of_run (λ shown. filter test (handed_in one shown) ≡ filter test (handed_in other shown)) table journal
-    (λ k l.
-    let s = state_at table journal k in
-    let input = input_at journal k in
-    let shown = shown_at table journal k in
+    run_alike (is_shared table journal one other) (common_at table journal one other) table journal one other valid are (λ d k e. ap (common_at table journal one other) e)
+    (λ k l service e c.
     let at = sound_at table journal k valid are l in
-    ap (filter test) (handed-log s input one at.0 at.1)
-    ∙ cycle_alike test (common_at table journal one other k) one other shown shown.decision
-    (λ d e. ap (common_at table journal one other) (e ∙ named_cycle table journal k l))
-    (λ service e c. common_same s input service one other at.0 at.1 e (ap (is_common shown one other) (sym e) ∙ c))
-    ∙ sym (ap (filter test) (handed-log s input other at.0 at.1))))
+    let shown = shown_at table journal k in
+    common_same (state_at table journal k) (input_at journal k) service one other at.0 at.1 e (ap (is_common shown one other) (sym e) ∙ c))

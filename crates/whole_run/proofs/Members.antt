@@ -42,7 +42,7 @@ use Rattle.element_core.proofs.PortLaws.{IsAt, IsAt-member_at}
 use Rattle.element_core.proofs.Sound.{before_sound}
 use Rattle.element_core.proofs.DecisionLaws.{Serves, IfTaken, decision_takes}
 use Rattle.whole_run.proofs.HeldAlike.{Alike, entry_alike, carries-voted, head-common, admitted-common}
-use Rattle.whole_run.proofs.Sourced.{There, there_by, admitted_has}
+use Rattle.element_core.proofs.AdmittedMembers.{There, there_by, admitted_has}
 use Rattle.element_core.proofs.AloneLaws.{pattern_in, decision_in, packets_in}
 use Rattle.bit_vote.proofs.Copies.{copy-fine, agreed-fine}
 

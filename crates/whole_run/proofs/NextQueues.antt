@@ -1,12 +1,11 @@
 -- The queues of a processor after the heads were popped and the packets delivered.
-use Rattle.std.proofs.Common.{◌≡◌, ℕ, Bool, true, false, cond, List, [], ◌∷◌, ◌++◌, refl, ap, sym, ◌∙◌, filter, fold, Contains, Option, Some, None, option_map, unwrap_or}
+use Rattle.std.proofs.Common.{◌≡◌, ℕ, Bool, true, false, cond, List, [], ◌∷◌, refl, ap, sym, ◌∙◌, filter, fold, Contains, Option, Some, None, option_map, unwrap_or}
 use Rattle.std.specs.List.{AllByRecursion}
 use Rattle.std.proofs.lemmas.Bool.{eqb-true, eqb-false}
 use Rattle.ftpp_base.specs.Lists.{cell_at}
 use Rattle.ftpp_base.specs.declared.element.Proc.{Proc}
 use Rattle.ftpp_base.specs.declared.sets.Set8.{Set8}
 use Rattle.packet_format.specs.declared.Packet.{Packet}
-use Rattle.packet_format.specs.declared.Delivered.{Delivered}
 use Rattle.packet_format.specs.declared.Descriptor.{Descriptor}
 use Rattle.config_table.specs.declared.groups.Group.{Group}
 use Rattle.config_table.specs.declared.decisions.Decision.{Decision}
@@ -14,10 +13,10 @@ use Rattle.config_table.specs.declared.decisions.Decision.TheVariants.{Idle, Dis
 use Rattle.config_table.specs.declared.decisions.Service.{Service}
 use Rattle.config_table.specs.Groups.{members_of, live_members, same_proc}
 use Rattle.config_table.specs.Table.{TableValue, group_named, in_limit, IsValid}
-use Rattle.processor_buffers.specs.Queues.{Queues, Posted, after_pop, after_delivery, has_in_room, rest, carries, head_of}
+use Rattle.processor_buffers.specs.Queues.{Queues, Posted, after_pop, rest, carries, head_of}
 use Rattle.data_exchange.specs.Entries.{senders}
 use Rattle.element_core.specs.Processors.{AllQueues, queues_of, with_queues, after_pops}
-use Rattle.element_core.specs.Cycle.{after_service, admitted_members, is_admitted, after_entry, after_handing, after_deliveries, receivers, delivered_by}
+use Rattle.element_core.specs.Cycle.{after_service, admitted_members, is_admitted, after_entry, after_handing, after_deliveries, receivers}
 use Rattle.scoreboard.specs.Service.{takes_of}
 use Rattle.element_core.specs.Claims.{admitted_set, taken_request}
 use Rattle.ftpp_base.proofs.Among.{contains-filter, all-filter}
@@ -25,7 +24,7 @@ use Rattle.ftpp_base.proofs.Changed.{fold-keeps}
 use Rattle.element_core.proofs.Places.{IsPlace, place-kept, places-kept, with_queues-keeps, fold-others, fold-own}
 use Rattle.config_table.proofs.ValidTable.{AreApart, named-there, members-others}
 use Rattle.config_table.proofs.LiveMembers.{apart-filter, live-apart, all-live}
-use Rattle.element_core.proofs.Accepted.{output_of, HasRow}
+use Rattle.element_core.proofs.Accepted.{HasRow}
 pub use Rattle.data_exchange.proofs.AlikeEntry.{senders-named}
 
 -- ---- the members of the group whose request is taken
@@ -111,21 +110,7 @@ service-rows table Idle all p h = h
 service-rows table (Discard v d number admitted waited) all p h = pops_keep HasRows (after_pop d) all (admitted_members table v admitted) p (rows_pop d) h
 service-rows table (Exchange service) all p h = pops_keep HasRows (after_pop service.desc) all (admitted_members table service.vid service.admitted) p (rows_pop service.desc) h
 
--- ---- deliveries leave the outputs
-
--- a delivery leaves the output, with or without room
-delivered_by_room : (limit : ℕ) (d : Delivered) (q : Queues) (b : Bool) → has_in_room limit q ≡ b → (after_delivery limit d q).output ≡ q.output
-delivered_by_room limit d q true e = ap (λ (b : Bool). (cond b (record q { input = q.input ++ d ∷ [] }) q).output) e
-delivered_by_room limit d q false e = ap (λ (b : Bool). (cond b (record q { input = q.input ++ d ∷ [] }) q).output) e
-
--- so does an entry, if there is one
-entry_output : (limit cycle : ℕ) (service : Service) (entry : Option Packet) (q : Queues) → (after_entry limit cycle service entry q).output ≡ q.output
-entry_output limit cycle service None q = refl
-entry_output limit cycle service (Some packet) q = delivered_by_room limit (delivered_by cycle service packet) q (has_in_room limit q) refl
-
--- a queue with that output
-abbrev HasOutput : List Posted → Queues → Type 0
-HasOutput xs q = q.output ≡ xs
+-- ---- deliveries leave a place
 
 -- a delivery to each receiver leaves a place
 handed_place : (table : TableValue) (cycle : ℕ) (service : Service) (entries : List (Option Packet)) (all : AllQueues) (procs : List Proc) (p : Proc) → IsPlace all p
@@ -134,24 +119,9 @@ handed_place table cycle service entries all procs p place =
     fold-keeps (λ x. IsPlace x p) (after_handing table cycle service entries) procs all
     (λ x q i k. place-kept (after_entry (in_limit table q) cycle service (cell_at entries q.ne)) x q p k) place
 
--- and its output
-handed_output : (table : TableValue) (cycle : ℕ) (service : Service) (entries : List (Option Packet)) (all : AllQueues) (procs : List Proc) (p : Proc)
-    → output_of (fold (after_handing table cycle service entries) all procs) p ≡ output_of all p
-handed_output table cycle service entries all procs p =
-    fold-keeps (λ x. HasOutput (output_of all p) (queues_of x p)) (after_handing table cycle service entries) procs all
-    (λ x q i k. with_queues-keeps (HasOutput (output_of all p)) (after_entry (in_limit table q) cycle service (cell_at entries q.ne)) x q p
-    (λ y e. entry_output (in_limit table q) cycle service (cell_at entries q.ne) y ∙ e) k) refl
-
 -- deliveries leave a place
 pub deliveries-place : (table : TableValue) (cycle : ℕ) (decision : Decision) (entries : List (Option Packet)) (all : AllQueues) (p : Proc) → IsPlace all p
     → IsPlace (after_deliveries table cycle decision entries all) p
 deliveries-place table cycle Idle entries all p place = place
 deliveries-place table cycle (Discard v d number admitted waited) entries all p place = place
 deliveries-place table cycle (Exchange service) entries all p place = handed_place table cycle service entries all (receivers table service) p place
-
--- and its output
-pub deliveries-output : (table : TableValue) (cycle : ℕ) (decision : Decision) (entries : List (Option Packet)) (all : AllQueues) (p : Proc)
-    → output_of (after_deliveries table cycle decision entries all) p ≡ output_of all p
-deliveries-output table cycle Idle entries all p = refl
-deliveries-output table cycle (Discard v d number admitted waited) entries all p = refl
-deliveries-output table cycle (Exchange service) entries all p = handed_output table cycle service entries all (receivers table service) p

@@ -31,14 +31,14 @@ use Rattle.whole_run.specs.Laws.{OverrunsOnlyFull}
 use Rattle.element_core.proofs.PortLaws.{IsAt, IsAt-member_at}
 use Rattle.element_core.proofs.Sound.{before_sound}
 use Rattle.element_core.proofs.DecisionLaws.{IfExchange, HasVid, HasVid-named, flags_named-voted}
-use Rattle.whole_run.proofs.Admitted.{below_eight, small_by}
+use Rattle.element_core.proofs.AdmittedMembers.{below_eight, small_by}
 use Rattle.element_core.proofs.AloneLaws.{pattern_in, decision_in, packets_in, entries_in, handed_in, size_of}
 use Rattle.whole_run.proofs.OverrunLaws.{Overran, handed_overran, service_input, Receives, receives_found, not_three, IsGranted, decision_granted, granted_seats, IsSeat, live_seats_are, seat_found, one_place, lag-without}
 use Rattle.element_core.proofs.Accepted.{slice_get-all}
 use Rattle.config_table.proofs.ValidTable.{AreApart}
 use Rattle.config_table.proofs.NamedGroups.{AreApart-groups, AreApart-named, InRange, InRange-named, elements-kept, IsGroupOf, IsGroupOf-valid}
 use Rattle.ftpp_base.proofs.Among.{all-found, all-both}
-use Rattle.whole_run.proofs.Heads.{entry-own}
+use Rattle.element_core.proofs.PatternLaws.{entry-own}
 
 -- ---- the input was full
 

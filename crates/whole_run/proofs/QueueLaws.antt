@@ -14,7 +14,8 @@ use Rattle.config_table.specs.Table.{TableValue, IsValid, out_limit}
 use Rattle.config_table.proofs.LiveMembers.{live-member}
 use Rattle.config_table.proofs.Validity.{valid_named}
 use Rattle.element_core.proofs.Places.{with_queues-keeps}
-use Rattle.whole_run.proofs.NextQueues.{service-other, deliveries-output}
+use Rattle.element_core.proofs.Outputs.{deliveries-output}
+use Rattle.whole_run.proofs.NextQueues.{service-other}
 use Rattle.processor_buffers.specs.Queues.{Queues, Posted, first, has_out_room, after_post, after_read}
 use Rattle.scoreboard.specs.Service.{takes_of}
 use Rattle.element_core.specs.Processors.{AllQueues, queues_of, after_act, after_acts}

@@ -35,7 +35,7 @@ use Rattle.ftpp_base.proofs.Among.{all-append}
 use Rattle.element_core.proofs.Accepted.{output_of, acts-place, acts-output, accepted-rows, slice_get-left, slice_get-long, HasRow}
 use Rattle.element_core.proofs.Calm.{shown-calm, state-calm, state_at-cycle, all_posts, posts_before, posts_before-suc, posts_before-all, posts_before-dated, posts_before-early}
 use Rattle.bit_vote.proofs.Widths.{cells-from}
-use Rattle.whole_run.proofs.Heads.{entry-own}
+use Rattle.element_core.proofs.PatternLaws.{entry-own}
 use Rattle.element_core.proofs.NextTable.{with_update-leaves, Leaves}
 use Rattle.whole_run.proofs.NextQueues.{HasRows}
 use Rattle.element_core.proofs.ShownFields.{IsShownBy, shown-fields, none-taken, times_taken-suc, service-counted, journal-faulty, history-all}

@@ -22,7 +22,8 @@ use Rattle.data_exchange.proofs.FaultFree.{fault_free-live}
 use Rattle.element_core.specs.Premises.{posted_of}
 use Rattle.element_core.proofs.Accepted.{output_of, rest-drop, HasRow}
 use Rattle.scoreboard.proofs.NextLine.{after_decision-own, after_decision-other}
-use Rattle.whole_run.proofs.NextQueues.{HasRows, service-own, service-other, service-place, service-rows, deliveries-place, deliveries-output}
+use Rattle.element_core.proofs.Outputs.{deliveries-output}
+use Rattle.whole_run.proofs.NextQueues.{HasRows, service-own, service-other, service-place, service-rows, deliveries-place}
 use Rattle.element_core.proofs.NextTable.{Leaves}
 use Rattle.packet_format.proofs.Descriptors.{same_descriptor-refl}
 use Rattle.element_core.proofs.Chosen.{request-marked}

@@ -15,7 +15,7 @@ pub after_update-requires : goal.after_update-requires
 after_update-requires c =
     let done : applied c.self.inside.table c.args.update.now ≡ Done c.in-Done.cleared = sym c.apply.ensures.answer ∙ c.in-Done.is in
     let others = others_stay c.self.inside.table c.args.update.now c.in-Done.cleared c.self.inside.scoreboard c.apply.ensures.valid c.self.invariant.0.lines done in
-    subst (λ vid. AreOthersHeldBy c.apply.new.table vid c.self.inside.scoreboard) (sym c.named_group.ensures)
+    subst (λ vid. AreOthersHeldBy c.apply.new.table vid c.self.inside.scoreboard) (sym c.group.ensures)
     (subst (λ (t : TableValue). AreOthersHeldBy t (named_group c.args.update.now) c.self.inside.scoreboard) (sym c.apply.ensures.table) others)
 
 pub update-requires : goal.update-requires
@@ -35,6 +35,6 @@ invariant_of-self c =
     c.update.ensures.me
     c.after_update.ensures.lines
     (c.after_update.ensures.earlier c.self.inside.cycle c.self.invariant.0.earlier)
-    (c.after_update.ensures.members (subst (λ vid. OnlyOthersLag c.apply.new.table vid c.self.inside.scoreboard) (sym c.named_group.ensures)
+    (c.after_update.ensures.members (subst (λ vid. OnlyOthersLag c.apply.new.table vid c.self.inside.scoreboard) (sym c.group.ensures)
     (subst (λ (t : TableValue). OnlyOthersLag t (named_group c.args.update.now) c.self.inside.scoreboard) (sym c.apply.ensures.table) others)))
     c.update.ensures.limits

@@ -11,7 +11,7 @@ pub after_update-requires : goal.after_update-requires
 after_update-requires g c =
     let done : applied c.self.inside.table c.args.update.now ≡ Done c.in-Done.cleared = sym c.apply.ensures.answer ∙ c.in-Done.is in
     let others = others_stay c.self.inside.table c.args.update.now c.in-Done.cleared c.self.inside.scoreboard c.n-valid.ensures.valid c.self.invariant.lines done in
-    subst (λ vid. AreOthersHeldBy c.apply.new.table vid c.self.inside.scoreboard) (sym c.named_group.ensures)
+    subst (λ vid. AreOthersHeldBy c.apply.new.table vid c.self.inside.scoreboard) (sym c.group.ensures)
     (subst (λ (t : TableValue). AreOthersHeldBy t (named_group c.args.update.now) c.self.inside.scoreboard) (sym c.apply.ensures.table) others)
 
 pub invariant_of-self : goal.invariant_of-self
