@@ -218,8 +218,8 @@ pub agreed_midst : (n : ℕ) (e : ElementValue) (pending : Pending n) (x : Echoe
     → pending.results ≡ each_below n (result_for x)
     → pending.pattern ≡ settled n x
     → pending.decision ≡ scoreboard_decision e.kept.table e.kept.cycle (voted_flags e.kept.table (settled n x)) e.kept.scoreboard
-    → pending.after ≡ scoreboard_after e.kept.table e.kept.cycle (voted_flags e.kept.table (settled n x)) e.kept.scoreboard
-    → AreLinesOf e.kept.table pending.after → AreBefore (e.kept.cycle + 1) pending.after → IsPending n e pending
+    → pending.after.value ≡ scoreboard_after e.kept.table e.kept.cycle (voted_flags e.kept.table (settled n x)) e.kept.scoreboard
+    → AreLinesOf e.kept.table pending.after.value → AreBefore (e.kept.cycle + 1) pending.after.value → IsPending n e pending
 agreed_midst n e pending x size cells heard is results pattern decision after lines earlier =
     let echoes : x ≡ echoes_of e.kept.me (own_pattern e.kept) e.heard.patterns e.heard.relayed_patterns = is ∙ sym ((own_cells_hold e cells).patterns heard) in
     let agreed : settled n x ≡ pattern_now e = λ i. settled (sym size i) (echoes i) in

@@ -42,9 +42,9 @@ pub record IsPending (n : ℕ) (e : ElementValue) (pending : Pending n) : Type 0
   pub results : pending.results ≡ each_below e.kept.table.n (result_for (echoes_of e.kept.me (own_pattern e.kept) e.heard.patterns e.heard.relayed_patterns))
   pub pattern : pending.pattern ≡ pattern_now e
   pub decision : pending.decision ≡ decision_now e
-  pub after : pending.after ≡ scoreboard_now e
-  pub lines : AreLinesOf e.kept.table pending.after
-  pub earlier : AreBefore (e.kept.cycle + 1) pending.after
+  pub after : pending.after.value ≡ scoreboard_now e
+  pub lines : AreLinesOf e.kept.table pending.after.value
+  pub earlier : AreBefore (e.kept.cycle + 1) pending.after.value
 
 -- What an element among n holds.
 pub record IsElement (n : ℕ) (e : ElementValue) (pending : Pending n) : Type 0 where

@@ -11,7 +11,7 @@ ghost use Rattle.element_core.specs.AloneRun.{own_answer};
 ghost use Rattle.element_core.specs.ElementValue.{fresh, after_own_act};
 ghost use Rattle.element_core.specs.Told.{told_of};
 
-use crate::kept_state::KeptState;
+use crate::kept_state::{KeptState, boxed};
 use crate::pending::Pending;
 use crate::{CycleRecord, Due};
 use bit_vote::Cells;
@@ -74,6 +74,7 @@ impl<const N: usize> Element<N> {
         let _elements = table.n();
         let kept = KeptState::new(alloc, me, table)?;
         let log = SyndromeLog::new(alloc)?;
+        let after = boxed(alloc, Scoreboard::new(table))?;
         let (patterns, packets) = unheard(me);
         Ok(Element {
             kept,
@@ -83,7 +84,7 @@ impl<const N: usize> Element<N> {
                 results: Cells::absent(),
                 pattern: SystemPattern::quiet(),
                 decision: Decision::Idle,
-                after: Scoreboard::new(table),
+                after,
             },
             due: Due::Emit(Round::A1),
             last: None,

@@ -33,8 +33,19 @@ use std::marker::Model;
 pub(crate) struct KeptState {
     pub(crate) cycle: u32,
     pub(crate) table: Table,
-    pub(crate) scoreboard: Scoreboard,
+    /// In memory of its own, so that the one after a decision takes its place without a copy.
+    pub(crate) scoreboard: Box<Scoreboard>,
     pub(crate) ports: Ports,
+}
+
+/// A scoreboard in memory of its own.
+pub(crate) fn boxed(alloc: Global, scoreboard: Scoreboard) -> Result<Box<Scoreboard>, NoMemory>
+    ensures { IfOk result (λ b. b.value ≡ scoreboard) }
+{
+    match Box::new(alloc, scoreboard) {
+        Ok(boxed) => Ok(boxed),
+        Err(_) => Err(NoMemory),
+    }
 }
 
 impl Model for KeptState {
@@ -45,9 +56,9 @@ impl Model for KeptState {
 
     ghost Value = { Kept };
 
-    ghost view = { λ s. kept_at s.cycle s.table s.scoreboard s.ports };
+    ghost view = { λ s. kept_at s.cycle s.table s.scoreboard.value s.ports };
 
-    ghost invariant = { λ s. IsKeptState (kept_at s.cycle s.table s.scoreboard s.ports) × HasLimits s.table s.ports };
+    ghost invariant = { λ s. IsKeptState (kept_at s.cycle s.table s.scoreboard.value s.ports) × HasLimits s.table s.ports };
 }
 
 impl KeptState {
@@ -57,10 +68,11 @@ impl KeptState {
         ensures { IfOk result (λ s. s ≡ record { me = me; cycle = 0; table = table.now; scoreboard = empty_scoreboard table.now; ports = empty_ports }) }
     {
         let ports = Ports::new(alloc, me, table)?;
+        let scoreboard = boxed(alloc, Scoreboard::new(table))?;
         Ok(KeptState {
             cycle: 0,
             table: table.copy(),
-            scoreboard: Scoreboard::new(table),
+            scoreboard,
             ports,
         })
     }
@@ -72,7 +84,7 @@ impl KeptState {
     {
         self.cycle = 0;
         self.table = table.copy();
-        self.scoreboard = Scoreboard::new(table);
+        *self.scoreboard = Scoreboard::new(table);
         self.ports.reset(table);
     }
 

@@ -25,7 +25,7 @@ pub(crate) struct Pending<const N: usize> {
     pub(crate) pattern: SystemPattern<N>,
     pub(crate) decision: Decision,
     /// The scoreboard after the decision.
-    pub(crate) after: Scoreboard,
+    pub(crate) after: Box<Scoreboard>,
 }
 
 impl<const N: usize> Pending<N> {
@@ -35,9 +35,9 @@ impl<const N: usize> Pending<N> {
         ensures results { self.new.results ≡ each_below N (result_for patterns.now) }
         ensures pattern { self.new.pattern ≡ settled N patterns.now }
         ensures decision { self.new.decision ≡ scoreboard_decision kept.now.table kept.now.cycle (voted_flags kept.now.table (settled N patterns.now)) kept.now.scoreboard }
-        ensures after { self.new.after ≡ scoreboard_after kept.now.table kept.now.cycle (voted_flags kept.now.table (settled N patterns.now)) kept.now.scoreboard }
-        ensures lines { AreLinesOf kept.now.table self.new.after }
-        ensures earlier { AreBefore (kept.now.cycle + 1) self.new.after }
+        ensures after { self.new.after.value ≡ scoreboard_after kept.now.table kept.now.cycle (voted_flags kept.now.table (settled N patterns.now)) kept.now.scoreboard }
+        ensures lines { AreLinesOf kept.now.table self.new.after.value }
+        ensures earlier { AreBefore (kept.now.cycle + 1) self.new.after.value }
     {
         self.results = patterns.results();
         pattern_into(&self.results, &mut self.pattern);

@@ -22,17 +22,17 @@ impl KeptState {
         &mut self,
         decision: &Decision,
         entry: Option<&Packet>,
-        after: &mut Scoreboard,
+        after: &mut Box<Scoreboard>,
     ) -> Option<(Proc, Handed)>
         requires cycle { self.old.cycle < 100000 }
-        requires lines { AreLinesOf self.old.table after.old }
-        requires earlier { AreBefore (self.old.cycle + 1) after.old }
-        requires members { OnlyMembersLag self.old.table after.old }
+        requires lines { AreLinesOf self.old.table after.old.value }
+        requires earlier { AreBefore (self.old.cycle + 1) after.old.value }
+        requires members { OnlyMembersLag self.old.table after.old.value }
         ensures kept { self.new ≡ record {
           me = self.old.me;
           cycle = self.old.cycle + 1;
           table = self.old.table;
-          scoreboard = after.old;
+          scoreboard = after.old.value;
           ports = own_delivery self.old decision.now (option_copied entry.entry) (own_service self.old decision.now);
         } }
         ensures handed { result ≡ own_handed self.old decision.now (option_copied entry.entry) (own_service self.old decision.now) }

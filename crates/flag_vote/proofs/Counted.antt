@@ -1,7 +1,6 @@
 -- Members that are gathered one after the other, and the flags that they make.
-use Rattle.std.proofs.Common.{◌≡◌, ℕ, ◌+◌, ◌<◌, ◌≤◌, Bool, true, false, cond, List, [], ◌∷◌, ◌++◌, length, map, drop, take, get_or, refl, ap, sym, ◌∙◌, arith, not, Option, Some, None, append_assoc}
+use Rattle.std.proofs.Common.{◌≡◌, ℕ, ◌+◌, ◌<◌, ◌≤◌, Bool, true, false, cond, List, [], ◌∷◌, ◌++◌, length, map, drop, take, get_or, refl, ap, sym, ◌∙◌, arith, Option, Some, None, append_assoc}
 use Rattle.std.specs.Prelude.{◌==◌, ◌||◌, filter, find, count_by}
-use Rattle.std.specs.List.{enumerate_from}
 use Rattle.std.proofs.lemmas.List.{drop_more, drop_all, take_more, map-append}
 use Rattle.std.proofs.lemmas.List.Elements.{filter-append}
 use Rattle.std.proofs.lemmas.Bool.{and_parts, ltb-false, le-ltb}
@@ -19,7 +18,7 @@ use Rattle.config_table.specs.Groups.{live_members, elements_of}
 use Rattle.config_table.specs.declared.groups.Group.{Group}
 pub use Rattle.config_table.proofs.Unmasked.{unmasked_more}
 use Rattle.flag_vote.specs.Flags.{Pattern, holds, has_space, descriptor_of, holders, all_hold, voted_descriptor, flags_of}
-use Rattle.flag_vote.specs.Words.{asks, unmasked_from, held_by, all_hold_it, most_hold, most_held, flags_on}
+use Rattle.flag_vote.specs.Words.{asks, held_by, all_hold_it, most_hold, most_held, flags_on}
 
 -- ---- one member more
 

@@ -6,7 +6,6 @@ use Rattle.ftpp_base.specs.Sets.{set_of}
 use Rattle.ftpp_base.specs.declared.element.Proc.{Proc}
 use Rattle.packet_format.specs.declared.Descriptor.{Descriptor}
 use Rattle.packet_format.specs.Packets.{same_descriptor}
-use Rattle.local_pattern.specs.declared.Entry.{Entry}
 use Rattle.local_pattern.specs.Pattern.{entry_of}
 pub use Rattle.local_pattern.specs.Columns.{Pattern, has_space}
 use Rattle.config_table.specs.declared.groups.Group.{Group}

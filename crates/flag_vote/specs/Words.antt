@@ -1,10 +1,9 @@
 -- What the live members of a group say, by the list of them.
-use Rattle.std.specs.Prelude.{ℕ, Bool, false, not, List, [], map, filter, find, Option, Some, None}
-use Rattle.std.specs.List.{list_all, enumerate_from}
+use Rattle.std.specs.Prelude.{ℕ, Bool, false, List, [], map, filter, find, Option, Some, None}
+use Rattle.std.specs.List.{list_all}
 use Rattle.ftpp_base.specs.Bits.{most}
-use Rattle.ftpp_base.specs.Sets.{has, set_of}
+use Rattle.ftpp_base.specs.Sets.{set_of}
 use Rattle.ftpp_base.specs.declared.element.Proc.{Proc}
-use Rattle.ftpp_base.specs.declared.sets.Set8.{Set8}
 use Rattle.packet_format.specs.declared.Descriptor.{Descriptor}
 use Rattle.config_table.specs.Groups.{elements_of}
 pub use Rattle.config_table.specs.Members.{unmasked_from}

@@ -1,13 +1,13 @@
 //! The flags of each group of a table.
 
-ghost use Rattle.std.specs.Prelude.{◌≡◌, ◌≤◌, length, map};
+ghost use Rattle.std.specs.Prelude.{◌≡◌, ◌≤◌, count_by, length, map};
 ghost use Rattle.ftpp_base.specs.Bits.{is_majority};
 ghost use Rattle.ftpp_base.specs.Sets.{set_of};
 ghost use Rattle.config_table.specs.Groups.{elements_of};
 ghost use Rattle.flag_vote.specs.Flags.{flags_of, voted_flags};
-ghost use Rattle.flag_vote.specs.Words.{flags_on, most_hold, most_held, held_by, all_hold_it};
+ghost use Rattle.flag_vote.specs.Words.{asks, flags_on, most_hold, most_held, held_by, all_hold_it};
 
-use crate::members::{Word, count_those, elements, live_members, tally};
+use crate::members::{Word, count_those, elements, live_members, survey, tally};
 use config_table::{Group, GroupFlags, Table, VotedFlags};
 use ftpp_base::{MOST_GROUPS, Proc, Set8};
 use local_pattern::SystemPattern;
@@ -44,12 +44,17 @@ fn first_held<const N: usize>(pattern: &SystemPattern<N>, live: &[Proc]) -> Opti
     None
 }
 
-/// Like `first_held`, but counts first who asks at all: without more than half of the live members there is no voted request.
-fn voted_by<const N: usize>(pattern: &SystemPattern<N>, live: &[Proc]) -> Option<Descriptor>
-    requires { length live.now ≤ 4 }
+/// Like `first_held`, but by how many ask at all: without more than half of the live members there is no voted request.
+fn voted_by<const N: usize>(
+    pattern: &SystemPattern<N>,
+    live: &[Proc],
+    asking: usize,
+) -> Option<Descriptor>
+    requires few { length live.now ≤ 4 }
+    requires few_asking { asking ≤ 4 }
+    requires asking { asking ≡ count_by (asks pattern.now) live.now }
     ensures { result ≡ most_held pattern.now live.now }
 {
-    let asking = count_those(pattern, &Word::Asks, live);
     if is_majority(asking, live.len()) {
         first_held(pattern, live)
     } else {
@@ -82,25 +87,28 @@ fn flags_on<const N: usize>(pattern: &SystemPattern<N>, vid: u8, live: &[Proc]) 
     requires { length live.now ≤ 4 }
     ensures { result ≡ flags_on pattern.now vid live.now }
 {
-    let desc = voted_by(pattern, live);
+    let said = survey(pattern, live);
+    let desc = voted_by(pattern, live, said.asking);
     let (holds, unanimous) = held(pattern, live, desc);
-    let (with_space, space) = tally(pattern, &Word::Space, live);
-    let most_space = is_majority(with_space, live.len());
+    let most_space = is_majority(said.with_space, live.len());
     GroupFlags {
         vid,
         desc,
         unanimous,
-        live: elements(live),
+        live: said.live,
         holds,
-        space,
+        space: said.space,
         most_space,
     }
 }
 
-/// The flags of a group.
+/// The flags of a group. Where nobody is masked, all members are live.
 fn group_flags<const N: usize>(pattern: &SystemPattern<N>, g: &Group) -> GroupFlags
     ensures { result ≡ flags_of pattern.now g.now }
 {
+    if g.masked.bits == 0 {
+        return flags_on(pattern, g.vid, g.members.as_slice());
+    }
     let live = live_members(g);
     flags_on(pattern, g.vid, live.as_slice())
 }

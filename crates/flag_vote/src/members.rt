@@ -4,7 +4,8 @@ ghost use Rattle.std.specs.Prelude.{◌≡◌, ◌<◌, ◌≤◌, ◌+◌, ◌+
 ghost use Rattle.ftpp_base.specs.Sets.{set_of};
 ghost use Rattle.packet_format.specs.Packets.{same_descriptor};
 ghost use Rattle.config_table.specs.Groups.{elements_of, live_members};
-ghost use Rattle.flag_vote.specs.Words.{says, unmasked_from};
+ghost use Rattle.flag_vote.specs.Flags.{has_space};
+ghost use Rattle.flag_vote.specs.Words.{asks, says, unmasked_from};
 
 use config_table::Group;
 use ftpp_base::{Proc, Row, Set8};
@@ -134,6 +135,49 @@ pub fn tally<const N: usize>(
         set = with_element_if(set, counts, p.ne);
     }
     (count, set)
+}
+
+/// What members say of themselves, counted in one go.
+#[derive(Drop)]
+pub struct Said {
+    /// How many have a request.
+    pub asking: usize,
+    /// How many have room.
+    pub with_space: usize,
+    /// The elements of those that have room.
+    pub space: Set8,
+    /// The elements of all.
+    pub live: Set8,
+}
+
+/// Asks all members what they say.
+pub fn survey<const N: usize>(pattern: &SystemPattern<N>, members: &[Proc]) -> Said
+    requires { length members.now ≤ 4 }
+    ensures asking { result.asking ≡ count_by (asks pattern.now) members.now }
+    ensures few { result.asking ≤ 4 }
+    ensures with_space { result.with_space ≡ count_by (has_space pattern.now) members.now }
+    ensures few_with { result.with_space ≤ 4 }
+    ensures space { result.space ≡ set_of (elements_of (filter (has_space pattern.now) members.now)) }
+    ensures live { result.live ≡ set_of (elements_of members.now) }
+{
+    let mut asking = 0;
+    let mut with_space = 0;
+    let mut space = Set8::EMPTY;
+    let mut live = Set8::EMPTY;
+    for p in members {
+        let asks = says(pattern, &Word::Asks, *p);
+        let has_space = says(pattern, &Word::Space, *p);
+        asking = one_more(asking, asks);
+        with_space = one_more(with_space, has_space);
+        space = with_element_if(space, has_space, p.ne);
+        live = with_element(live, p.ne);
+    }
+    Said {
+        asking,
+        with_space,
+        space,
+        live,
+    }
 }
 
 /// The elements at which the members stand.

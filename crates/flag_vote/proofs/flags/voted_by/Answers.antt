@@ -6,4 +6,4 @@ use Rattle.flag_vote.proofs.flags.voted_by.Goals as goal
 pub returns-else-is_majority : goal.returns-else-is_majority
 returns-else-is_majority g c =
     sym (none_without_most c.args.pattern.now c.args.live.now
-    (ap (λ part. is_majority part (length c.args.live.now)) (sym c.count_those-asking.ensures.count) ∙ sym c.is_majority.ensures ∙ c.if-is_majority.false))
+    (ap (λ part. is_majority part (length c.args.live.now)) (sym c.requires.asking) ∙ sym c.is_majority.ensures ∙ c.if-is_majority.false))

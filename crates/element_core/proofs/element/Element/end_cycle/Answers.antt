@@ -136,15 +136,15 @@ at_hand g c =
     }
 
 -- what it keeps after the decision was served
-serves : (g : Over) (c : goal.After-self-4-1 g) → c.serve-handed.new.self ≡ served_by (ending g c) c.self.inside.pending.decision c.entry_of-packet.result c.self.inside.pending.after
-serves g c = c.serve-handed.ensures.kept ∙ (λ i. served_by (ending g c) c.self.inside.pending.decision (c.as_ref-2.ensures.value i) c.self.inside.pending.after)
+serves : (g : Over) (c : goal.After-self-4-1 g) → c.serve-handed.new.self ≡ served_by (ending g c) c.self.inside.pending.decision c.entry_of-packet.result c.self.inside.pending.after.value
+serves g c = c.serve-handed.ensures.kept ∙ (λ i. served_by (ending g c) c.self.inside.pending.decision (c.as_ref-2.ensures.value i) c.self.inside.pending.after.value)
 
 -- and after the cycle
 keeps : (g : Over) (c : goal.After-self-4-1 g) → c.update-update.new.self ≡ kept_after (ending g c).kept (made (ending g c).kept (ending g c).heard)
 keeps g c =
     let s = c.self.inside in
     let due = ap (λ (v : ElementValue). v.due) c.self.view_is ∙ c.requires in
-    kept_ends (ending g c) s.pending.decision c.entry_of-packet.result c.update_of-asked.result s.pending.after c.serve-handed.new.self c.update-update.new.self
+    kept_ends (ending g c) s.pending.decision c.entry_of-packet.result c.update_of-asked.result s.pending.after.value c.serve-handed.new.self c.update-update.new.self
     c.self.invariant.0.cells due (at_hand g c) (c.self.invariant.0.agreed (rw due (omega arith))).after (serves g c) c.update-update.ensures.kept
 
 pub invariant_of-self : goal.invariant_of-self

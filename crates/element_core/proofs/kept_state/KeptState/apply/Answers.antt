@@ -1,7 +1,8 @@
 use Rattle.std.proofs.Common.{◌≡◌, sym, ◌∙◌, ap, subst, List}
 use Rattle.ftpp_base.specs.declared.element.Proc.{Proc}
 use Rattle.config_table.specs.Table.{TableValue}
-use Rattle.scoreboard.specs.Times.{AreOthersHeldBy, OnlyOthersLag}
+use Rattle.scoreboard.specs.Board.{Scoreboard}
+use Rattle.scoreboard.specs.Times.{AreOthersHeldBy, AreBefore, OnlyOthersLag}
 use Rattle.table_update.specs.declared.Applied.TheVariants.{Done}
 use Rattle.table_update.specs.Updates.{applied, named_group, table_after}
 use Rattle.element_core.proofs.Sound.{size-table_after}
@@ -14,9 +15,10 @@ use Rattle.element_core.proofs.kept_state.KeptState.apply.Goals as goal
 pub after_update-requires : goal.after_update-requires
 after_update-requires c =
     let done : applied c.self.inside.table c.args.update.now ≡ Done c.in-Done.cleared = sym c.apply.ensures.answer ∙ c.in-Done.is in
-    let others = others_stay c.self.inside.table c.args.update.now c.in-Done.cleared c.self.inside.scoreboard c.apply.ensures.valid c.self.invariant.0.lines done in
-    subst (λ vid. AreOthersHeldBy c.apply.new.table vid c.self.inside.scoreboard) (sym c.group.ensures)
-    (subst (λ (t : TableValue). AreOthersHeldBy t (named_group c.args.update.now) c.self.inside.scoreboard) (sym c.apply.ensures.table) others)
+    let others = others_stay c.self.inside.table c.args.update.now c.in-Done.cleared c.self.inside.scoreboard.value c.apply.ensures.valid c.self.invariant.0.lines done in
+    subst (λ (board : Scoreboard). AreOthersHeldBy c.apply.new.table c.group.result board) (sym c.deref_mut.ensures.value)
+    (subst (λ vid. AreOthersHeldBy c.apply.new.table vid c.self.inside.scoreboard.value) (sym c.group.ensures)
+    (subst (λ (t : TableValue). AreOthersHeldBy t (named_group c.args.update.now) c.self.inside.scoreboard.value) (sym c.apply.ensures.table) others))
 
 pub update-requires : goal.update-requires
 update-requires c =
@@ -28,13 +30,14 @@ update-requires c =
 pub invariant_of-self : goal.invariant_of-self
 invariant_of-self c =
     let done : applied c.self.inside.table c.args.update.now ≡ Done c.in-Done.cleared = sym c.apply.ensures.answer ∙ c.in-Done.is in
-    let others = others_lag c.self.inside.table c.args.update.now c.in-Done.cleared c.self.inside.scoreboard c.apply.ensures.valid c.self.invariant.0.lines c.self.invariant.0.members done in
-    stands_on c.self.inside.cycle c.self.inside.table c.apply.new.table c.self.inside.scoreboard c.after_update.new.self c.self.inside.ports c.update.new.self
+    let others = others_lag c.self.inside.table c.args.update.now c.in-Done.cleared c.self.inside.scoreboard.value c.apply.ensures.valid c.self.invariant.0.lines c.self.invariant.0.members done in
+    stands_on c.self.inside.cycle c.self.inside.table c.apply.new.table c.self.inside.scoreboard.value c.after_update.new.self c.self.inside.ports c.update.new.self
     c.self.invariant
     (ap (λ (t : TableValue). t.n) c.apply.ensures.table ∙ size-table_after c.self.inside.table c.args.update.now)
     c.update.ensures.me
     c.after_update.ensures.lines
-    (c.after_update.ensures.earlier c.self.inside.cycle c.self.invariant.0.earlier)
-    (c.after_update.ensures.members (subst (λ vid. OnlyOthersLag c.apply.new.table vid c.self.inside.scoreboard) (sym c.group.ensures)
-    (subst (λ (t : TableValue). OnlyOthersLag t (named_group c.args.update.now) c.self.inside.scoreboard) (sym c.apply.ensures.table) others)))
+    (c.after_update.ensures.earlier c.self.inside.cycle (subst (AreBefore c.self.inside.cycle) (sym c.deref_mut.ensures.value) c.self.invariant.0.earlier))
+    (c.after_update.ensures.members (subst (λ (board : Scoreboard). OnlyOthersLag c.apply.new.table c.group.result board) (sym c.deref_mut.ensures.value)
+    (subst (λ vid. OnlyOthersLag c.apply.new.table vid c.self.inside.scoreboard.value) (sym c.group.ensures)
+    (subst (λ (t : TableValue). OnlyOthersLag t (named_group c.args.update.now) c.self.inside.scoreboard.value) (sym c.apply.ensures.table) others))))
     c.update.ensures.limits

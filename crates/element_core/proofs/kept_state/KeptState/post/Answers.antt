@@ -12,12 +12,12 @@ use Rattle.element_core.proofs.kept_state.KeptState.post.Goals as goal
 
 pub invariant_of-self : goal.invariant_of-self
 invariant_of-self c =
-    stands_with c.self.inside.cycle c.self.inside.table c.self.inside.scoreboard c.self.inside.ports c.post.new.self _ c.self.invariant
+    stands_with c.self.inside.cycle c.self.inside.table c.self.inside.scoreboard.value c.self.inside.ports c.post.new.self _ c.self.invariant
     (c.post.ensures.ports c.self.inside.table c.self.invariant.1)
 
 pub returns-clause-kept : goal.returns-clause-kept
 returns-clause-kept c =
-    ap (kept_at c.self.inside.cycle c.self.inside.table c.self.inside.scoreboard) (c.post.ensures.ports c.self.inside.table c.self.invariant.1)
+    ap (kept_at c.self.inside.cycle c.self.inside.table c.self.inside.scoreboard.value) (c.post.ensures.ports c.self.inside.table c.self.invariant.1)
     ∙ ap (λ (k : Kept). record k { ports = own_act k.table k.ports (Post (proc_at k.me c.args.port) c.args.desc c.args.packet) }) c.self.view_is
 
 pub returns-clause-full : goal.returns-clause-full

@@ -9,10 +9,10 @@ use Rattle.element_core.proofs.kept_state.KeptState.read.Goals as goal
 
 pub invariant_of-self : goal.invariant_of-self
 invariant_of-self c =
-    stands_with c.self.inside.cycle c.self.inside.table c.self.inside.scoreboard c.self.inside.ports c.read.new.self _ c.self.invariant
+    stands_with c.self.inside.cycle c.self.inside.table c.self.inside.scoreboard.value c.self.inside.ports c.read.new.self _ c.self.invariant
     (c.read.ensures.ports c.self.inside.table)
 
 pub returns-clause-kept : goal.returns-clause-kept
 returns-clause-kept c =
-    ap (kept_at c.self.inside.cycle c.self.inside.table c.self.inside.scoreboard) (c.read.ensures.ports c.self.inside.table)
+    ap (kept_at c.self.inside.cycle c.self.inside.table c.self.inside.scoreboard.value) (c.read.ensures.ports c.self.inside.table)
     ∙ ap (λ (k : Kept). record k { ports = own_act k.table k.ports (Read (proc_at k.me c.args.port)) }) c.self.view_is
