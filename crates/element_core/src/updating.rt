@@ -74,8 +74,7 @@ impl KeptState {
     {
         match apply(&mut self.table, update) {
             Applied::Done(cleared) => {
-                self.scoreboard
-                    .after_update(&self.table, update.group());
+                self.scoreboard.after_update(&self.table, update.group());
                 self.ports.update(&self.table, cleared.as_slice());
                 Outcome3::Done
             }

@@ -151,8 +151,7 @@ impl<const N: usize> Watched<N> {
         let _valid = self.table.n();
         match apply(&mut self.table, update) {
             Applied::Done(cleared) => {
-                self.scoreboard
-                    .after_update(&self.table, update.group());
+                self.scoreboard.after_update(&self.table, update.group());
                 self.standing = still_standing(&self.standing, cleared.as_slice());
             }
             Applied::Refused(_) | Applied::Absent => {}

@@ -138,7 +138,7 @@ cycle_alike test b one other shown (Exchange service) dated same =
 pub run_alike : (test : Delivered → Bool) (passes : ℕ → Bool) (table : TableValue) (journal : Journal) (one other : Proc) → IsValid table → AllByRecursion (IsInput table.n) journal
     → ((d : Delivered) (k : ℕ) → d.cycle ≡ k → test d ≡ passes k)
     → ((k : ℕ) → k < length journal → (service : Service) → (shown_at table journal k).decision ≡ Exchange service → passes k ≡ true
-      → due_in one (shown_at table journal k) (entry_of (shown_at table journal k) service) ≡ due_in other (shown_at table journal k) (entry_of (shown_at table journal k) service))
+    → due_in one (shown_at table journal k) (entry_of (shown_at table journal k) service) ≡ due_in other (shown_at table journal k) (entry_of (shown_at table journal k) service))
     → filter test (handed_of table journal one) ≡ filter test (handed_of table journal other)
 run_alike test passes table journal one other valid are dated same =
     kept_alike test (handed_in one) (handed_in other) (history table journal)
