@@ -1,5 +1,6 @@
 use Rattle.std.proofs.Common.{inl, inr, arith}
+use Rattle.cluster.proofs.Sizes.{station_fits}
 use Rattle.cluster.proofs.faults.play.Goals as goal
 
 pub play_at-requires : goal.play_at-requires
-play_at-requires g c = (elim c.requires.size [ inl e ↦ rw e (omega arith) | inr e ↦ rw e (omega arith) ], (c.requires.size, (c.requires.count, c.requires.below c.in-Some.ne c.in-Some.is)))
+play_at-requires g c = (station_fits g.row.N c.requires.size, (c.requires.size, (c.requires.count, c.requires.below c.in-Some.ne c.in-Some.is)))

@@ -2,13 +2,14 @@ use Rattle.std.proofs.Common.{rules, ◌≡◌, inl, inr, arith}
 use Rattle.element_core.specs.ElementValue.{fresh}
 use Rattle.cluster.proofs.Places.{below_five}
 use Rattle.cluster.proofs.ActSteps.{each_push, elements_are}
+use Rattle.cluster.proofs.Sizes.{station_fits}
 use Rattle.cluster.proofs.network.new_stations.Goals as goal
 
 pub new-requires : goal.new-requires
-new-requires g c = (elim c.requires.size [ inl e ↦ rw e (omega arith) | inr e ↦ rw e (omega arith) ], (c.requires.elements, omega (arith, c.at.ensures, c.loop-k-test.true)))
+new-requires g c = (station_fits g.row.N c.requires.size, (c.requires.elements, omega (arith, c.at.ensures, c.loop-k-test.true)))
 
 pub drop-stations-requires : goal.drop-stations-requires
-drop-stations-requires g c = λ κs. ((elim c.requires.size [ inl e ↦ rw e (omega arith) | inr e ↦ rw e (omega arith) ], tt), search rules)
+drop-stations-requires g c = λ κs. ((station_fits g.row.N c.requires.size, tt), search rules)
 
 pub at-requires : goal.at-requires
 at-requires g c = below_five g.row.N c.loop-k.k c.requires.size c.loop-k-test.true

@@ -1,11 +1,12 @@
 use Rattle.std.proofs.Common.{◌<◌, length, inl, inr, arith}
+use Rattle.cluster.proofs.Sizes.{place_fits, station_fits}
 use Rattle.cluster.proofs.rejoining.rejoin_at.Goals as goal
 
 pub states_of-states-requires : goal.states_of-states-requires
-states_of-states-requires g c = (elim c.requires.size [ inl e ↦ rw e (omega arith) | inr e ↦ rw e (omega arith) ], (elim c.requires.size [ inl e ↦ rw e (omega arith) | inr e ↦ rw e (omega arith) ], (c.requires.size, (c.requires.count, c.requires.ready))))
+states_of-states-requires g c = (station_fits g.row.N c.requires.size, (elim c.requires.size [ inl e ↦ rw e (omega arith) | inr e ↦ rw e (omega arith) ], (c.requires.size, (c.requires.count, c.requires.ready))))
 
 pub offset_bounds-stations-index : goal.offset_bounds-stations-index
-offset_bounds-stations-index g c = elim c.requires.size [ inl e ↦ rw e (omega (arith, c.index.ensures.small)) | inr e ↦ rw e (omega (arith, c.index.ensures.small)) ]
+offset_bounds-stations-index g c = place_fits g.row.N c.index.result c.requires.size (omega (arith, c.index.ensures.number, c.requires.below))
 
 pub rejoin-requires : goal.rejoin-requires
 rejoin-requires g c =

@@ -1,14 +1,15 @@
 use Rattle.std.proofs.Common.{◌∙◌, inl, inr, arith}
 use Rattle.cluster.specs.Carrying.{bytes_in}
 use Rattle.cluster.proofs.RoundLaws.{placed_still, exchanged, has_left, plays_left}
+use Rattle.cluster.proofs.Sizes.{station_fits}
 use Rattle.cluster.proofs.rounds.exchange.Goals as goal
 
 pub play-requires : goal.play-requires
-play-requires g c = (elim c.requires.size [ inl e ↦ rw e (omega arith) | inr e ↦ rw e (omega arith) ], (c.requires.size, (c.requires.count, c.requires.below)))
+play-requires g c = (station_fits g.row.N c.requires.size, (c.requires.size, (c.requires.count, c.requires.below)))
 
 pub carry_all-requires : goal.carry_all-requires
 carry_all-requires g c = (
-  elim c.requires.size [ inl e ↦ rw e (omega arith) | inr e ↦ rw e (omega arith) ],
+  station_fits g.row.N c.requires.size,
   (
     c.requires.size,
     (

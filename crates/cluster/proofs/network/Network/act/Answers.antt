@@ -3,11 +3,12 @@ use Rattle.cluster.specs.declared.stations.Station.{Station}
 use Rattle.cluster.specs.ClusterValue.{all_acted, all_answers}
 use Rattle.cluster.specs.Stations.{AllRest, elements_of}
 use Rattle.cluster.proofs.Written.{written}
+use Rattle.cluster.proofs.Sizes.{station_fits}
 use Rattle.cluster.proofs.network.Network.act.Goals as goal
 
 pub act_all-requires : goal.act_all-requires
 act_all-requires g c = (
-  elim c.requires.size [ inl e ↦ rw e (omega arith) | inr e ↦ rw e (omega arith) ],
+  station_fits g.row.N c.requires.size,
   (
     c.requires.size,
     (

@@ -6,11 +6,12 @@ use Rattle.cluster.specs.Stations.{AllPlaced, AllReady, elements_of}
 use Rattle.cluster.specs.Rejoins.{AllTellStates, RejoinsAmong}
 use Rattle.cluster.proofs.Written.{written}
 use Rattle.cluster.proofs.RejoinStations.{RejoinedAt, among, placed_after}
+use Rattle.cluster.proofs.Sizes.{station_fits}
 use Rattle.cluster.proofs.network.Network.rejoin.Goals as goal
 
 pub rejoin_at-requires : goal.rejoin_at-requires
 rejoin_at-requires g c = (
-  elim c.requires.size [ inl e ↦ rw e (omega arith) | inr e ↦ rw e (omega arith) ],
+  station_fits g.row.N c.requires.size,
   (
     c.requires.size,
     (

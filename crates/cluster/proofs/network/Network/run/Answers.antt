@@ -8,6 +8,7 @@ use Rattle.cluster.specs.Stations.{AllPlaced, AllReady}
 use Rattle.cluster.specs.Carrying.{AreTables, HasShape, TellsMore, bytes_in, delivered_in, cycle_entries}
 use Rattle.cluster.specs.Rounds.{PlaysCycleOf, RunsCycle, SendsCycle}
 use Rattle.cluster.proofs.Written.{written, rows_long}
+use Rattle.cluster.proofs.Sizes.{station_fits}
 use Rattle.cluster.proofs.network.Network.run.Goals as goal
 
 pub rounds_in_turn-requires : goal.rounds_in_turn-requires
@@ -15,7 +16,7 @@ rounds_in_turn-requires g c =
     let f = c.args.self.now in
     let N = g.row.N in
     let t = c.requires.tables in (
-      elim c.requires.size [ inl e ↦ rw e (omega arith) | inr e ↦ rw e (omega arith) ],
+      station_fits g.row.N c.requires.size,
       (
         c.requires.size,
         (

@@ -8,6 +8,7 @@ use Rattle.cluster.specs.Stations.{AllPlaced, AllReady}
 use Rattle.cluster.specs.Carrying.{AreTables, HasShape, TellsMore, bytes_in, delivered_in, cycle_entries}
 use Rattle.cluster.specs.Rounds.{PlaysCycleOf, RunsCycle, SendsCycle}
 use Rattle.cluster.proofs.Written.{written, rows_long}
+use Rattle.cluster.proofs.Sizes.{station_fits}
 use Rattle.cluster.proofs.network.Network.run_split.Goals as goal
 
 pub rounds_split-requires : goal.rounds_split-requires
@@ -19,7 +20,7 @@ rounds_split-requires g c =
       (
         c.type_bounds.sync-G,
         (
-          elim c.requires.size [ inl e ↦ rw e (omega arith) | inr e ↦ rw e (omega arith) ],
+          station_fits g.row.N c.requires.size,
           (
             c.requires.size,
             (
