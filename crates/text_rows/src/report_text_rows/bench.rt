@@ -3,14 +3,15 @@
 ghost use Rattle.std.specs.Prelude.{◌≡◌, ◌<◌, ◌⊎◌, IsTrue};
 ghost use Rattle.report_text.specs.Sums.{IsBounded};
 
-use super::cases::{Asked, Case, Decided, Way};
+use super::cases::{Asked, Case, Decided, FrameCase, Run, Way};
 use config_table::{Decision, Kind, Service};
 use element_core::{CycleRecord, CycleReport, Rejoined};
+use frame_format::FrameBuf;
 use ftpp_base::{Ne, Proc, Row, Set8};
 use local_pattern::{Entry, LocalPattern, SystemPattern};
 use packet_format::{Act, ActAnswer, Delivered, Descriptor, HostActs, Packet};
 use processor_buffers::Handed;
-use report_text::{TextBuf, Totals, cycle_text};
+use report_text::{TextBuf, Totals, cycle_text, end_text, trace_text};
 use syndrome_log::{Syndrome, SyndromeKind};
 
 fn packet(first: [u8; 3]) -> Packet {
@@ -19,28 +20,45 @@ fn packet(first: [u8; 3]) -> Packet {
     Packet { bytes }
 }
 
-/// What one element shows: space at each port, and a request at one.
+/// The request that waits at a port of an element.
+fn request_at(case: &Case, ne: u8, port: u8) -> Option<Descriptor>
+    requires { ne < 4 }
+{
+    for &(at, waits_at, desc) in case.waiting {
+        if waits_at == port && (Set8 { bits: at }).has(ne) {
+            return Some(desc);
+        }
+    }
+    None
+}
+
+fn has_space(case: &Case, ne: u8, port: u8) -> bool
+    requires { ne < 4 }
+{
+    for &(at, full_at) in case.full {
+        if full_at == port && (Set8 { bits: at }).has(ne) {
+            return false;
+        }
+    }
+    true
+}
+
+/// What one element shows of its ports.
 fn column(case: &Case, ne: u8) -> LocalPattern
     requires { ne < 4 }
 {
-    let (at, waiting, desc) = case.waiting;
     let mut column = LocalPattern::quiet();
     if (Set8 { bits: case.silent }).has(ne) {
         return column;
     }
     for port in 0..8u8 {
-        let not_empty = port == waiting && (Set8 { bits: at }).has(ne);
-        let desc = if not_empty {
-            desc
-        } else {
-            Descriptor::default()
-        };
+        let request = request_at(case, ne, port);
         column.set(
             port,
             Entry {
-                not_empty,
-                not_full: true,
-                desc,
+                not_empty: request.is_some(),
+                not_full: has_space(case, ne, port),
+                desc: request.unwrap_or_default(),
             },
         );
     }
@@ -84,9 +102,11 @@ fn decision(decided: Decided) -> Option<Decision> {
 }
 
 /// What is handed to the processor at an element.
-fn handed_at(handed: &[(u8, u8, Handed)], ne: u8) -> Option<(Proc, Handed)> {
+fn handed_at(handed: &[(u8, u8, Handed)], ne: u8) -> Option<(Proc, Handed)>
+    requires { ne < 4 }
+{
     for &(at, port, what) in handed {
-        if at == ne {
+        if (Set8 { bits: at }).has(ne) {
             return Some((Proc { ne, port }, what));
         }
     }
@@ -148,17 +168,19 @@ fn answered(proc: Proc, asked: Asked) -> (Act, ActAnswer) {
 }
 
 /// What the processors ask for in a cycle, and its report.
-pub(super) fn report_of(case: &Case) -> Option<(HostActs, CycleReport<4>)> {
+fn report_of(case: &Case) -> Option<(HostActs, CycleReport<4>)> {
     let faulty = match case.faulty {
         None => None,
         Some(ne) => Some(Ne::new(ne, 4)?),
     };
     let mut acts = HostActs::new();
     let mut answers = Row::new();
-    for &(ne, port, asked) in case.acts {
+    for &(times, ne, port, asked) in case.acts {
         let (act, answer) = answered(Proc { ne, port }, asked);
-        let _ = acts.try_push(act);
-        let _ = answers.try_push(answer);
+        for _ in 0..times {
+            let _ = acts.try_push(act);
+            let _ = answers.try_push(answer);
+        }
     }
     let mut rows = Row::new();
     for ne in 0..4 {
@@ -244,7 +266,7 @@ fn fullest_record(ne: u8) -> Option<CycleRecord<5>> {
 }
 
 /// A cycle in which all processors act, and all elements note all that they can.
-pub(super) fn fullest() -> Option<(HostActs, CycleReport<5>)> {
+fn fullest() -> Option<(HostActs, CycleReport<5>)> {
     let got = Delivered {
         cycle: 99_998,
         from: 254,
@@ -254,8 +276,12 @@ pub(super) fn fullest() -> Option<(HostActs, CycleReport<5>)> {
     };
     let mut acts = HostActs::new();
     let mut answers = Row::new();
-    for _ in 0..80 {
-        let _ = acts.try_push(Act::Read(Proc { ne: 4, port: 7 }));
+    for place in 0..80u8 {
+        let proc = Proc {
+            ne: place % 5,
+            port: place / 5 % 8,
+        };
+        let _ = acts.try_push(Act::Read(proc));
         let _ = answers.try_push(ActAnswer::Got(got));
     }
     let mut rows = Row::new();
@@ -288,12 +314,24 @@ fn may_grow(totals: &Totals) -> bool
         && totals.syndromes <= most
 }
 
-/// Writes the text of a cycle and adds it to the totals, where it has a row for each element and an answer for each act.
-pub(super) fn shown<const N: usize>(
+/// Adds a cycle to the totals as often as it comes, where it has a row for each element.
+fn is_added<const N: usize>(times: u32, report: &CycleReport<N>, totals: &mut Totals) -> bool
+    requires { (N ≡ 4) ⊎ (N ≡ 5) }
+{
+    for _ in 0..times {
+        if report.rows.len() != N || !may_grow(totals) {
+            return false;
+        }
+        totals.add(report);
+    }
+    true
+}
+
+/// Writes the text of a cycle in place of another, where it has a row for each element and an answer for each act.
+fn is_written<const N: usize>(
     rejoin: Option<(u8, Rejoined)>,
     acts: &HostActs,
     report: &CycleReport<N>,
-    totals: &mut Totals,
     out: &mut TextBuf,
 ) -> Option<()>
     requires { (N ≡ 4) ⊎ (N ≡ 5) }
@@ -302,11 +340,49 @@ pub(super) fn shown<const N: usize>(
         None => None,
         Some((ne, rejoined)) => Some((Ne::new(ne, 5)?, rejoined)),
     };
-    let fits = report.rows.len() == N && acts.len() == report.answers.len();
-    if !fits || !may_grow(totals) || out.bytes().len() > 32_768 {
+    if report.rows.len() != N || acts.len() != report.answers.len() {
         return None;
     }
+    out.clear();
     cycle_text(rejoin, acts, report, out);
-    totals.add(report);
     Some(())
+}
+
+/// Whether a cycle's text is the wanted one. It is added to the totals as often as it comes.
+fn is_shown(case: &Case, totals: &mut Totals, out: &mut TextBuf) -> Option<bool> {
+    let (acts, report) = report_of(case)?;
+    is_written(case.rejoin, &acts, &report, out)?;
+    Some(is_added(case.times, &report, totals) && out.bytes() == case.text.as_bytes())
+}
+
+/// What is wanted at the first place where the text of a run is another.
+pub(super) fn first_other(run: &Run, out: &mut TextBuf) -> Option<&'static str> {
+    let mut totals = Totals::zero();
+    for case in run.cycles {
+        if is_shown(case, &mut totals, out) != Some(true) {
+            return Some(case.text);
+        }
+    }
+    out.clear();
+    end_text(&totals, out);
+    (out.bytes() != run.end.as_bytes()).then_some(run.end)
+}
+
+/// Writes the fullest cycle, and gives how many bytes that are and how many notes are counted.
+pub(super) fn fullest_shown(out: &mut TextBuf) -> Option<(usize, u64)> {
+    let (acts, report) = fullest()?;
+    let mut totals = Totals::zero();
+    is_written(Some((4, Rejoined::Refused)), &acts, &report, out)?;
+    is_added(1, &report, &mut totals).then_some((out.bytes().len(), totals.syndromes))
+}
+
+/// Whether the line of a frame is the wanted one.
+pub(super) fn is_traced(case: &FrameCase, out: &mut TextBuf) -> Option<bool> {
+    let from = Ne::new(case.from, 5)?;
+    let to = Ne::new(case.to, 5)?;
+    let mut frame = FrameBuf::new();
+    frame.try_extend_from_slice(case.frame).ok()?;
+    out.clear();
+    trace_text::<5>(case.cycle, &frame, case.round, from, to, out);
+    Some(out.bytes() == case.text.as_bytes())
 }
