@@ -4,5 +4,5 @@ use Rattle.config_text.specs.Reading.{config_of}
 use Rattle.command_steps.specs.Migrating.{MigratesToSame}
 
 pub migrates : MigratesToSame
-migrates bytes table None e (text, reads, added) = absurd added
-migrates bytes table (Some written) e (text, reads, added) = (written, refl, ap config_of added ∙ (reads ∙ sym e))
+migrates bytes table None e (text, prints, added) = absurd added
+migrates bytes table (Some written) e (text, prints, added) = (written, refl, ap config_of added ∙ (prints.1 ∙ sym e))

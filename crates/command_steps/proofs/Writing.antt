@@ -5,13 +5,12 @@ use Rattle.std.proofs.lemmas.List.{take-append-le}
 use Rattle.ftpp_outside.specs.Told.{Adds}
 use Rattle.ftpp_outside.proofs.Told.{adds_none, adds_both}
 use Rattle.config_table.specs.Table.{TableValue}
-use Rattle.config_text.specs.Reading.{config_of}
-use Rattle.command_steps.specs.Ends.{WithTable, AddsPrefix, Writes, WritesPart}
+use Rattle.command_steps.specs.Ends.{Prints, WithTable, AddsPrefix, Writes, WritesPart}
 
-pub writes_table : (front text : List ℕ) (table : TableValue) (old new : Option (List ℕ)) → config_of text ≡ Ok table → Adds old (front ++ text) new → Writes (WithTable front table) old new
+pub writes_table : (front text : List ℕ) (table : TableValue) (old new : Option (List ℕ)) → Prints text table → Adds old (front ++ text) new → Writes (WithTable front table) old new
 writes_table front text table old new e h = (text, e, h)
 
-pub writes_table_part : (front text : List ℕ) (table : TableValue) (old new : Option (List ℕ)) → config_of text ≡ Ok table → AddsPrefix old (front ++ text) new → WritesPart (WithTable front table) old new
+pub writes_table_part : (front text : List ℕ) (table : TableValue) (old new : Option (List ℕ)) → Prints text table → AddsPrefix old (front ++ text) new → WritesPart (WithTable front table) old new
 writes_table_part front text table old new e h = (text, e, h)
 
 -- ---- one text after another

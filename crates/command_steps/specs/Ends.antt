@@ -1,8 +1,9 @@
 -- How a call of `top` ends: its status, and what is written.
-use Rattle.std.specs.Prelude.{◌≡◌, ℕ, ◌≤◌, ◌⊎◌, List, [], ◌++◌, take, length, codes, Option, Ok}
+use Rattle.std.specs.Prelude.{◌≡◌, ℕ, ◌≤◌, ◌⊎◌, List, [], ◌++◌, take, length, codes, Option, Some, Ok}
 use Rattle.ftpp_outside.specs.Told.{Adds}
 use Rattle.config_table.specs.Table.{TableValue}
-use Rattle.config_text.specs.Reading.{config_of}
+use Rattle.config_text.specs.Printing.{printed_table}
+use Rattle.config_text.specs.Reading.{document_of, config_of}
 use Rattle.command_steps.specs.declared.status.Status.{Status}
 use Rattle.command_steps.specs.declared.status.Status.TheVariants.{Done, Usage, Script, Config, Read, Write, Memory, TooLong, Stream}
 use Rattle.command_steps.specs.Lines.{script_line, config_line}
@@ -19,7 +20,11 @@ exit_of Memory = 6
 exit_of TooLong = 7
 exit_of (Stream cycle code) = 8
 
--- What a call may write: this text, a front and then a text that reads as a table, or any text.
+-- a text of version 2, which reads as a table: its document is that of the table
+abbrev pub Prints : List ℕ → TableValue → Type 0
+Prints text table = (document_of text ≡ Some (printed_table table)) × (config_of text ≡ Ok table)
+
+-- What a call may write: this text, a front and then the printed text of a table, or any text.
 pub data Output : Type 0 where
   Exactly : List ℕ → Output
   WithTable : List ℕ → TableValue → Output
@@ -32,12 +37,12 @@ AddsPrefix old text new = (n : ℕ) × (n ≤ length text) × Adds old (take n t
 -- Such a text was added, or some of one from its start.
 abbrev pub Writes : Output → Option (List ℕ) → Option (List ℕ) → Type 0
 Writes (Exactly text) old new = Adds old text new
-Writes (WithTable front table) old new = (text : List ℕ) × (config_of text ≡ Ok table) × Adds old (front ++ text) new
+Writes (WithTable front table) old new = (text : List ℕ) × Prints text table × Adds old (front ++ text) new
 Writes Anything old new = Unit {0}
 
 abbrev pub WritesPart : Output → Option (List ℕ) → Option (List ℕ) → Type 0
 WritesPart (Exactly text) old new = AddsPrefix old text new
-WritesPart (WithTable front table) old new = (text : List ℕ) × (config_of text ≡ Ok table) × AddsPrefix old (front ++ text) new
+WritesPart (WithTable front table) old new = (text : List ℕ) × Prints text table × AddsPrefix old (front ++ text) new
 WritesPart Anything old new = Unit {0}
 
 -- How a call ends where nothing fails.

@@ -48,6 +48,7 @@ pub fn load_table<H: Shelf, K: Sink>(
 ) -> Result<Table, Status>
     ensures step { Steps (λ (t : TableValue). t) (table_named (H.files shelf.old) name.now) result (K.written out.old) (K.written out.new) }
     ensures read { result ≡ Err Read → Rose (H.faults shelf.old) (H.faults shelf.new) }
+    ensures sure { H.sure_of shelf.old name.now → result ≡ Err Read → ⊥ }
     ensures too_long { result ≡ Err TooLong → IsLonger (H.files shelf.old) name.now file_limit }
     ensures only { IfErr result IsRefusal }
     ensures memory { result ≡ Err Memory → K.written out.new ≡ K.written out.old }

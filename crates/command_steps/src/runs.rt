@@ -34,6 +34,7 @@ fn table_for<H: Shelf, K: Sink>(
 ) -> Result<Table, Status>
     ensures step { Steps (λ (t : TableValue). t) (table_for (H.files shelf.old) (option_copied config.entry)) result (K.written out.old) (K.written out.new) }
     ensures read { result ≡ Err Read → Rose (H.faults shelf.old) (H.faults shelf.new) }
+    ensures sure { IfSome (option_copied config.entry) (H.sure_of shelf.old) → result ≡ Err Read → ⊥ }
     ensures too_long { result ≡ Err TooLong → IsLongFile (H.files shelf.old) (option_copied config.entry) }
     ensures only { IfErr result IsRefusal }
     ensures memory { result ≡ Err Memory → K.written out.new ≡ K.written out.old }
@@ -76,6 +77,7 @@ pub fn load_element<H: Shelf, K: Sink>(
     ensures step { Steps (λ (r : TableValue × ℕ). r.0) (table_with (H.files shelf.old) (Some number) (option_copied config.entry)) result (K.written out.old) (K.written out.new) }
     ensures below { IfOk result (λ r. (r.1 ≡ number) × (r.1 < r.0.n)) }
     ensures read { result ≡ Err Read → Rose (H.faults shelf.old) (H.faults shelf.new) }
+    ensures sure { IfSome (option_copied config.entry) (H.sure_of shelf.old) → result ≡ Err Read → ⊥ }
     ensures too_long { result ≡ Err TooLong → IsLongFile (H.files shelf.old) (option_copied config.entry) }
     ensures only { IfErr result IsRefusal }
     ensures memory { result ≡ Err Memory → K.written out.new ≡ K.written out.old }
@@ -84,14 +86,9 @@ pub fn load_element<H: Shelf, K: Sink>(
     ensures shelf_faults { H.faults shelf.old ≤ H.faults shelf.new }
     ensures sink_faults { K.faults out.old ≤ K.faults out.new }
 {
-    let table = match table_for(alloc, config, shelf, out) {
-        Ok(table) => table,
-        Err(status) => return Err(status),
-    };
-    match element_of(number, &table, out) {
-        Ok(ne) => Ok((table, ne)),
-        Err(status) => Err(status),
-    }
+    let table = table_for(alloc, config, shelf, out)?;
+    let ne = element_of(number, &table, out)?;
+    Ok((table, ne))
 }
 
 /// The same, where an element may be named or none.
@@ -106,6 +103,7 @@ pub fn load_named<H: Shelf, K: Sink>(
     ensures named { IfOk result (λ r. r.1 ≡ named) }
     ensures below { IfOk result (λ r. IfSome r.1 (λ ne. ne < r.0.n)) }
     ensures read { result ≡ Err Read → Rose (H.faults shelf.old) (H.faults shelf.new) }
+    ensures sure { IfSome (option_copied config.entry) (H.sure_of shelf.old) → result ≡ Err Read → ⊥ }
     ensures too_long { result ≡ Err TooLong → IsLongFile (H.files shelf.old) (option_copied config.entry) }
     ensures only { IfErr result IsRefusal }
     ensures memory { result ≡ Err Memory → K.written out.new ≡ K.written out.old }
@@ -115,15 +113,11 @@ pub fn load_named<H: Shelf, K: Sink>(
     ensures sink_faults { K.faults out.old ≤ K.faults out.new }
 {
     let Some(number) = named else {
-        return match table_for(alloc, config, shelf, out) {
-            Ok(table) => Ok((table, None)),
-            Err(status) => Err(status),
-        };
+        let table = table_for(alloc, config, shelf, out)?;
+        return Ok((table, None));
     };
-    match load_element(alloc, number, config, shelf, out) {
-        Ok((table, ne)) => Ok((table, Some(ne))),
-        Err(status) => Err(status),
-    }
+    let (table, ne) = load_element(alloc, number, config, shelf, out)?;
+    Ok((table, Some(ne)))
 }
 
 /// The table of a run and its script: first the table is loaded, then the script is read. Otherwise the call ends.
@@ -139,6 +133,7 @@ pub fn load_run<S: Source, H: Shelf, K: Sink>(
     ensures playable { IfOk result (λ r. IsPlayable r.0.n (plan_of r.1)) }
     ensures edits { IfOk result (λ r. IsTrue (never_fall 0 r.1.edits.items)) }
     ensures read { result ≡ Err Read → Rose (S.faults input.old) (S.faults input.new) ⊎ Rose (H.faults shelf.old) (H.faults shelf.new) }
+    ensures sure { IfSome (option_copied config.entry) (H.sure_of shelf.old) → result ≡ Err Read → Rose (S.faults input.old) (S.faults input.new) }
     ensures too_long { result ≡ Err TooLong → (S.taken input.new ≡ raised (S.taken input.old) (script_limit + 1)) ⊎ IsLongFile (H.files shelf.old) (option_copied config.entry) }
     ensures only { IfErr result IsRefusal }
     ensures memory { result ≡ Err Memory → K.written out.new ≡ K.written out.old }
@@ -148,12 +143,8 @@ pub fn load_run<S: Source, H: Shelf, K: Sink>(
     ensures shelf_faults { H.faults shelf.old ≤ H.faults shelf.new }
     ensures sink_faults { K.faults out.old ≤ K.faults out.new }
 {
-    let table = match table_for(alloc, config, shelf, out) {
-        Ok(table) => table,
-        Err(status) => return Err(status),
-    };
-    match load_script(alloc, input, &table, out) {
-        Ok(script) => Ok((table, script)),
-        Err(status) => Err(status),
-    }
+    // a file is loaded before the source is read
+    let table = table_for(alloc, config, shelf, out)?;
+    let script = load_script(alloc, input, &table, out)?;
+    Ok((table, script))
 }

@@ -90,8 +90,6 @@ pub fn load_script<S: Source, K: Sink>(
     ensures source_faults { S.faults input.old ≤ S.faults input.new }
     ensures sink_faults { K.faults out.old ≤ K.faults out.new }
 {
-    match load_bytes(alloc, input, out) {
-        Ok(bytes) => parse_script(alloc, bytes.as_slice(), table, out),
-        Err(status) => Err(status),
-    }
+    let bytes = load_bytes(alloc, input, out)?;
+    parse_script(alloc, bytes.as_slice(), table, out)
 }

@@ -35,10 +35,10 @@ pub fn check<K: Sink>(alloc: Global, table: &Table, out: &mut K) -> Status
     ensures write { result ≡ Write → Rose (K.faults out.old) (K.faults out.new) }
     ensures faults { K.faults out.old ≤ K.faults out.new }
 {
+    let line = valid_line(table);
     let Ok(text) = print_config(alloc, table) else {
         return Status::Memory;
     };
-    let line = valid_line(table);
     match write_both(line.as_slice(), text.as_slice(), out) {
         Ok(()) => Status::Done,
         Err(WriteFault) => Status::Write,
@@ -52,10 +52,10 @@ pub fn migrate<K: Sink>(alloc: Global, table: &Table, out: &mut K) -> Status
     ensures write { result ≡ Write → Rose (K.faults out.old) (K.faults out.new) }
     ensures faults { K.faults out.old ≤ K.faults out.new }
 {
-    let Ok(text) = print_config(alloc, table) else {
+    let Ok(file) = print_config(alloc, table) else {
         return Status::Memory;
     };
-    match write_all(out, text.as_slice()) {
+    match write_all(out, file.as_slice()) {
         Ok(()) => Status::Done,
         Err(WriteFault) => Status::Write,
     }

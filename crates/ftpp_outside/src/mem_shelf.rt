@@ -76,16 +76,19 @@ fn copied(alloc: Global, bytes: &[u8], limit: usize) -> Result<Vec<u8>, ShelfErr
 }
 
 impl Shelf for MemShelf {
-    ghost use Rattle.ftpp_outside.specs.MemShelf.{shelved, next_call, failing_calls};
+    ghost use Rattle.ftpp_outside.specs.MemShelf.{shelved, next_call, failing_calls, IsSureOf};
 
     ghost files = { λ s. Some (shelved s) };
 
     ghost faults = { λ s. s.faults };
 
+    ghost sure_of = { IsSureOf };
+
     fn load(&mut self, alloc: Global, name: &str, limit: usize) -> Result<Vec<u8>, ShelfError>
         ensures bytes { IfOk result (λ v. bytes_of (shelved self.old) name.now ≡ Some v.items) }
         ensures short { IfOk result (λ v. vec_len v ≤ limit) }
         ensures fault { result ≡ Err ShelfError.Fault → Rose self.old.faults self.new.faults }
+        ensures sure { IsSureOf self.old name.now → result ≡ Err ShelfError.Fault → ⊥ }
         ensures missing { bytes_of (shelved self.old) name.now ≡ None → Rose self.old.faults self.new.faults }
         ensures too_long { result ≡ Err ShelfError.TooLong → IsSomeAnd (bytes_of (shelved self.old) name.now) (λ bytes. limit < length bytes) }
         ensures same { shelved self.new ≡ shelved self.old }

@@ -28,6 +28,9 @@ pub trait Shelf {
     /// The number of faults so far, which stays at 2^64 - 1.
     ghost faults: { Self → ℕ };
 
+    /// That the shelf is sure of a file: the next load of this name meets no fault. A shelf that can't know is sure of none.
+    ghost sure_of: { Self → List ℕ → Type 0 } = { λ _ _. ⊥ };
+
     /// Loads all bytes of a file, if they are no more than the limit.
     ///
     /// # Errors
@@ -39,6 +42,7 @@ pub trait Shelf {
         ensures bytes { IfOk result (λ v. Loads (files self.old) name.now v.items) }
         ensures short { IfOk result (λ v. vec_len v ≤ limit) }
         ensures fault { result ≡ Err ShelfError.Fault → Rose (faults self.old) (faults self.new) }
+        ensures sure { sure_of self.old name.now → result ≡ Err ShelfError.Fault → ⊥ }
         ensures missing { IsMissing (files self.old) name.now → Rose (faults self.old) (faults self.new) }
         ensures too_long { result ≡ Err ShelfError.TooLong → IsLonger (files self.old) name.now limit }
         ensures same { files self.new ≡ files self.old }

@@ -51,6 +51,7 @@ fn play_command<S: Source, K: Sink, H: Shelf, F: Fabric>(
     ensures too_long { result ≡ TooLong → (S.taken input.new ≡ raised (S.taken input.old) (script_limit + 1)) ⊎ IsLongFile (H.files shelf.old) (option_copied config.entry) }
     ensures lawful { result ≡ Usage → ⊥ }
     ensures unloaded { option_copied config.entry ≡ None → shelf.new ≡ shelf.old }
+    ensures sure { IfSome (option_copied config.entry) (H.sure_of shelf.old) → result ≡ Read → Rose (S.faults input.old) (S.faults input.new) }
     ensures causes { Causes result (record { source = S.faults input.old; shelf = H.faults shelf.old; sink = K.faults out.old; written = K.written out.old }) (record { source = S.faults input.new; shelf = H.faults shelf.new; sink = K.faults out.new; written = K.written out.new }) }
 {
     let (table, script) = match load_run(alloc, config, input, shelf, out) {
@@ -69,6 +70,7 @@ fn check_command<K: Sink, H: Shelf>(
 ) -> Status
     ensures ends { EndsAs (ends_by (table_named (H.files shelf.old) config.now) checked) result (K.written out.old) (K.written out.new) }
     ensures too_long { result ≡ TooLong → IsLonger (H.files shelf.old) config.now file_limit }
+    ensures sure { H.sure_of shelf.old config.now → result ≡ Read → ⊥ }
     ensures lawful { result ≡ Usage → ⊥ }
     ensures causes { Causes result (record { source = 0; shelf = H.faults shelf.old; sink = K.faults out.old; written = K.written out.old }) (record { source = 0; shelf = H.faults shelf.new; sink = K.faults out.new; written = K.written out.new }) }
 {
@@ -87,6 +89,7 @@ fn migrate_command<K: Sink, H: Shelf>(
 ) -> Status
     ensures ends { EndsAs (ends_by (table_named (H.files shelf.old) config.now) migrated) result (K.written out.old) (K.written out.new) }
     ensures too_long { result ≡ TooLong → IsLonger (H.files shelf.old) config.now file_limit }
+    ensures sure { H.sure_of shelf.old config.now → result ≡ Read → ⊥ }
     ensures lawful { result ≡ Usage → ⊥ }
     ensures causes { Causes result (record { source = 0; shelf = H.faults shelf.old; sink = K.faults out.old; written = K.written out.old }) (record { source = 0; shelf = H.faults shelf.new; sink = K.faults out.new; written = K.written out.new }) }
 {
@@ -128,6 +131,7 @@ fn node_command<S: Source, K: Sink, H: Shelf>(
     ensures lawful { result ≡ Usage → ⊥ }
     ensures unserved { result ≡ Memory → input.new ≡ input.old }
     ensures unloaded { option_copied config.entry ≡ None → shelf.new ≡ shelf.old }
+    ensures sure { IfSome (option_copied config.entry) (H.sure_of shelf.old) → result ≡ Read → Rose (S.faults input.old) (S.faults input.new) }
     ensures causes { Causes result (record { source = S.faults input.old; shelf = H.faults shelf.old; sink = K.faults out.old; written = K.written out.old }) (record { source = S.faults input.new; shelf = H.faults shelf.new; sink = K.faults out.new; written = K.written out.new }) }
 {
     let (table, me) = match load_element(alloc, element, config, shelf, out) {
@@ -151,6 +155,7 @@ fn audit_command<S: Source, K: Sink, H: Shelf>(
     ensures too_long { result ≡ TooLong → (S.taken input.new ≡ raised (S.taken input.old) (script_limit + 1)) ⊎ IsLongFile (H.files shelf.old) (option_copied config.entry) }
     ensures lawful { result ≡ Usage → ⊥ }
     ensures unloaded { option_copied config.entry ≡ None → shelf.new ≡ shelf.old }
+    ensures sure { IfSome (option_copied config.entry) (H.sure_of shelf.old) → result ≡ Read → Rose (S.faults input.old) (S.faults input.new) }
     ensures causes { Causes result (record { source = S.faults input.old; shelf = H.faults shelf.old; sink = K.faults out.old; written = K.written out.old }) (record { source = S.faults input.new; shelf = H.faults shelf.new; sink = K.faults out.new; written = K.written out.new }) }
 {
     let (table, named) = match load_named(alloc, named, config, shelf, out) {
@@ -197,6 +202,7 @@ fn answer<R: Threads + Sync, S: Source, K: Sink, H: Shelf, F: Fabric, G: Gate>(
     // What is done read the source to its end.
     ensures whole { result ≡ Done → reads (Some (command_value command.entry)) ≡ true → IfSome (S.left input.new) (λ bytes. bytes ≡ []) }
     ensures too_long { result ≡ TooLong → (S.taken input.new ≡ raised (S.taken input.old) (script_limit + 1)) ⊎ IsLongFile (H.files shelf.old) (loads (Some (command_value command.entry))) }
+    ensures sure { IfSome (loads (Some (command_value command.entry))) (H.sure_of shelf.old) → result ≡ Read → Rose (S.faults input.old) (S.faults input.new) }
     ensures causes { Causes result (record { source = S.faults input.old; shelf = H.faults shelf.old; sink = K.faults out.old; written = K.written out.old }) (record { source = S.faults input.new; shelf = H.faults shelf.new; sink = K.faults out.new; written = K.written out.new }) }
 {
     match command {
@@ -274,6 +280,7 @@ pub fn top<R: Threads + Sync, S: Source, K: Sink, H: Shelf, F: Fabric, G: Gate>(
 
     // When faults and want of memory come.
     ensures read { result ≡ Read → Rose (S.faults input.old) (S.faults input.new) ⊎ Rose (H.faults shelf.old) (H.faults shelf.new) }
+    ensures sure { IfSome (loads (command_of (map string_bytes words.now))) (H.sure_of shelf.old) → result ≡ Read → Rose (S.faults input.old) (S.faults input.new) }
     ensures write { result ≡ Write → Rose (K.faults out.old) (K.faults out.new) }
     ensures memory { result ≡ Memory → K.written out.new ≡ K.written out.old }
     ensures source_faults { S.faults input.old ≤ S.faults input.new }

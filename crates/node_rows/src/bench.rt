@@ -1,8 +1,6 @@
 //! A node of four elements over the forms in memory.
 
-ghost use Rattle.std.specs.Prelude.{◌≡◌, IfSome};
-
-use config_table::{Group, Table};
+use built_in_tables::built_in_4;
 use element_node::{NodeEnd, serve_node};
 use ftpp_base::Ne;
 use ftpp_outside::{MemSink, MemSource};
@@ -49,21 +47,6 @@ pub(crate) const AMPLE: Around = Around {
     room: 10_000,
 };
 
-/// The built-in table of four elements.
-pub(crate) fn four_elements() -> Option<Table>
-    ensures { IfSome result (λ t. t.n ≡ 4) }
-{
-    let groups = [
-        Group::usual(1, &[(0, 0), (1, 0), (2, 0), (3, 0)]),
-        Group::usual(2, &[(0, 1), (1, 1), (2, 1)]),
-        Group::usual(3, &[(1, 2), (2, 2), (3, 2)]),
-        Group::usual(4, &[(3, 1)]),
-        Group::usual(5, &[(0, 3)]),
-    ];
-    let table = Table::new(4, 1, &groups).ok()?;
-    if table.n() == 4 { Some(table) } else { None }
-}
-
 /// How element 0 ends that reads these bytes for some cycles, and what it wrote.
 pub(crate) fn served(
     alloc: Global,
@@ -71,7 +54,7 @@ pub(crate) fn served(
     cycles: u32,
     around: &Around,
 ) -> Result<(NodeEnd, Vec<u8>), Fail> {
-    let table = four_elements().ok_or("table")?;
+    let table = built_in_4();
     let me = Ne::new(0, 4).ok_or("0")?;
     let bad_read = Vec::from_array(alloc, [around.bad_read])?;
     let bad_write = Vec::from_array(alloc, [around.bad_write])?;

@@ -2,7 +2,7 @@
 
 ghost use Rattle.std.specs.Prelude.{◌<◌, ◌^◌};
 
-use crate::bench::four_elements;
+use built_in_tables::built_in_4;
 use element_node::{NodeEnd, serve_node};
 use ftpp_base::Ne;
 use ftpp_outside::{ReadFault, Sink, Source, WriteFault};
@@ -86,7 +86,7 @@ impl<'a> Sink for Counted<'a> {
 
 #[test]
 fn reads_what_is_due(rt: HostRuntime) -> Result<(), Fail> {
-    let table = four_elements().ok_or("table")?;
+    let table = built_in_4();
     let me = Ne::new(0, 4).ok_or("0")?;
     let written = AtomicU64::new(0);
     let mut input = DueZeros {

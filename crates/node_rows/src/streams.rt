@@ -21,8 +21,8 @@ const SILENT: [(&[u8], bool, usize); 4] = [
 /// How many bytes a silent element writes in a cycle.
 const WRITTEN: usize = 522;
 
-/// How many bytes it has written when each round's frame is out.
-const ROUNDS: [usize; 4] = [41, 181, 254, 522];
+/// Where the frame of A2 begins.
+const A2_AT: usize = 41;
 
 /// Where the low byte of the cycle stands in each frame with its length, and where the pattern of A1.
 const CYCLE_AT: usize = 6;
@@ -50,15 +50,16 @@ fn push_silent(text: &mut Vec<u8>, cycle: u8) -> Result<(), Fail> {
     Ok(())
 }
 
-/// What silent element 0 writes in two cycles.
-fn two_silent(alloc: Global) -> Result<Vec<u8>, Fail> {
+/// What silent element 0 writes in ten cycles.
+fn ten_silent(alloc: Global) -> Result<Vec<u8>, Fail> {
     let mut text = Vec::new(alloc);
-    push_silent(&mut text, 0)?;
-    push_silent(&mut text, 1)?;
+    for cycle in 0..10u8 {
+        push_silent(&mut text, cycle)?;
+    }
     Ok(text)
 }
 
-/// Whether element 0 ends so, and wrote that many of the bytes of two silent cycles.
+/// Whether element 0 ends so, and wrote that many of the bytes of ten silent cycles.
 fn ends(
     alloc: Global,
     input: Vec<u8>,
@@ -67,7 +68,7 @@ fn ends(
     want: (NodeEnd, usize),
 ) -> Result<bool, Fail> {
     let (end, written) = served(alloc, input, cycles, around)?;
-    let silent = two_silent(alloc)?;
+    let silent = ten_silent(alloc)?;
     Ok(end == want.0 && written.len() == want.1 && silent.starts_with(written.as_slice()))
 }
 
@@ -89,6 +90,27 @@ fn between(zeros: usize, then: &'static [u8], zeros_behind: usize) -> Bytes {
         zeros,
         then,
         zeros_behind,
+    }
+}
+
+fn in_pieces(piece: usize) -> Around {
+    Around {
+        read_piece: piece,
+        write_piece: piece,
+        ..AMPLE
+    }
+}
+
+fn with_room(room: usize) -> Around {
+    Around { room, ..AMPLE }
+}
+
+/// A read and a write that fail, by the numbers of their calls.
+fn failing(bad_read: u64, bad_write: u64) -> Around {
+    Around {
+        bad_read,
+        bad_write,
+        ..AMPLE
     }
 }
 
@@ -165,51 +187,65 @@ fn breaks_at_a_byte(rt: HostRuntime) -> Result<(), Fail> {
 }
 
 #[test]
-fn meets_pieces_and_faults(rt: HostRuntime) -> Result<(), Fail> {
-    let mut cases = Vec::new(rt.alloc());
-    for piece in [1, 7] {
-        let around = Around {
-            read_piece: piece,
-            write_piece: piece,
-            ..AMPLE
-        };
-        cases.push((around, NodeEnd::Done, WRITTEN))?;
-    }
-    // a read of the count of acts, three reads of lengths in each round, and one behind the last cycle
-    for bad_read in 1..16u64 {
-        let round = (bad_read.saturating_add(1) / 3) as usize;
-        let before = if bad_read == 1 {
-            0
-        } else {
-            ROUNDS[round.clamp(1, 4) - 1]
-        };
-        let end = if bad_read == 15 {
-            NodeEnd::Done
-        } else {
-            NodeEnd::Read
-        };
-        cases.push((Around { bad_read, ..AMPLE }, end, before))?;
-    }
-    for (bad_write, end, before) in [
-        (1, NodeEnd::Write, 0),
-        (2, NodeEnd::Write, 41),
-        (3, NodeEnd::Write, 181),
-        (4, NodeEnd::Write, 254),
-        (5, NodeEnd::Done, 522),
+fn meets_pieces_and_room(rt: HostRuntime) -> Result<(), Fail> {
+    for (around, end, written) in [
+        (in_pieces(1), NodeEnd::Done, WRITTEN),
+        (in_pieces(7), NodeEnd::Done, WRITTEN),
+        (with_room(0), NodeEnd::Write, 0),
+        (with_room(40), NodeEnd::Write, 40),
+        (with_room(50), NodeEnd::Write, 50),
+        (with_room(521), NodeEnd::Write, 521),
+        // the read behind the last cycle, and calls that do not come
+        (failing(14, 0), NodeEnd::Read, WRITTEN),
+        (failing(15, 0), NodeEnd::Done, WRITTEN),
+        (failing(0, 5), NodeEnd::Done, WRITTEN),
     ] {
-        cases.push((Around { bad_write, ..AMPLE }, end, before))?;
-    }
-    for room in [0, 40, 50, 521] {
-        cases.push((Around { room, ..AMPLE }, NodeEnd::Write, room))?;
-    }
-    for (around, end, written) in cases.iter() {
         let input = zeros(25).list(rt.alloc())?;
         assert!(rt;
-            ends(rt.alloc(), input, 1, around, (*end, *written))?,
+            ends(rt.alloc(), input, 1, &around, (end, written))?,
             "{} {} {}",
             around.bad_read,
             around.bad_write,
             around.room
+        );
+    }
+    Ok(())
+}
+
+/// How many bytes of a cycle a silent node has written before each of its reads: of the count of acts, and of three lengths
+/// in each round.
+const BEFORE_READS: [usize; 13] = [0, 41, 41, 41, 181, 181, 181, 254, 254, 254, 522, 522, 522];
+
+/// And before each of its writes, which are those of its frames.
+const BEFORE_WRITES: [usize; 4] = [0, 41, 181, 254];
+
+#[test]
+fn meets_each_fault(rt: HostRuntime) -> Result<(), Fail> {
+    for call in 0..40usize {
+        let number = call as u64 + 1;
+        let written = call / 13 * WRITTEN + BEFORE_READS[call % 13];
+        let input = zeros(250).list(rt.alloc())?;
+        assert!(rt;
+            ends(
+                rt.alloc(),
+                input,
+                10,
+                &failing(number, 0),
+                (NodeEnd::Read, written)
+            )?,
+            "read {number}"
+        );
+        let written = call / 4 * WRITTEN + BEFORE_WRITES[call % 4];
+        let input = zeros(250).list(rt.alloc())?;
+        assert!(rt;
+            ends(
+                rt.alloc(),
+                input,
+                10,
+                &failing(0, number),
+                (NodeEnd::Write, written)
+            )?,
+            "write {number}"
         );
     }
     Ok(())
@@ -282,7 +318,7 @@ fn of_acts(alloc: Global, acts: &Acts) -> Result<(Vec<u8>, Vec<u8>), Fail> {
     input.resize(count, 0)?;
     let start = wanted.len().saturating_add(PATTERN_AT);
     push_silent(&mut wanted, 0)?;
-    for frame in [0, ROUNDS[0]] {
+    for frame in [0, A2_AT] {
         let at = start
             .saturating_add(frame)
             .saturating_add(acts.port.saturating_mul(4));
