@@ -1,0 +1,5 @@
+pub mod SpelledLines
+pub mod PlacedLines
+pub mod ByteFrames
+pub mod PlayedInputs
+pub mod PlayedFrames
