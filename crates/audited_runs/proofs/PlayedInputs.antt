@@ -56,9 +56,7 @@ faulty_there n plan before playable is =
 
 -- its acts are whole
 act_whole : (n : ℕ) (act : Act) → ActFits n act → IsAct act
-act_whole n (Post proc desc packet) fits =
-    let few = fits.1.1 in
-    record { dest = few.0; class = few.1.0; source = few.1.1.0; row = record { long = few.1.1.1.0; bytes = few.1.1.1.1 } }
+act_whole n (Post proc desc packet) fits = record { dest = fits.2; class = fits.3; source = fits.4; row = record { long = fits.5; bytes = fits.6 } }
 act_whole n (Read proc) fits = tt
 
 acts_whole : (n : ℕ) (entries : List (ℕ × Act)) → AllByRecursion (ActIsThere n) entries → AllByRecursion IsAct (map (λ (entry : ℕ × Act). entry.1) entries)
