@@ -3,3 +3,4 @@ pub mod PlacedLines
 pub mod ByteFrames
 pub mod PlayedInputs
 pub mod PlayedFrames
+pub mod AuditedTraces

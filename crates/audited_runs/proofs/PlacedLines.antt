@@ -174,18 +174,22 @@ bytes_from n cycle (frames ∷ more) size =
 
 -- ---- whole cycles
 
+-- as many frames as the cycles have
+pub listed_long : (n : ℕ) (cycles : List Frames) → length (flat_map (listed n) cycles) ≡ length cycles * per_cycle n
+listed_long n cycles = flat_length (listed n) (per_cycle n) cycles (all_long cycles) where
+  all_long : (frames : List Frames) → AllByRecursion (λ x. length (listed n x) ≡ per_cycle n) frames
+  all_long [] = tt
+  all_long (x ∷ xs) = (listed_length n x, all_long xs)
+
 whole_frames : (n last : ℕ) (cycles : List Frames) → IsSize n → 1 ≤ length cycles → if_whole n last (flat_map (listed n) cycles) ≡ Ok (flat_map (listed n) cycles)
 whole_frames n last cycles size some =
     let p = per_cycle n in
     let there = some_frames n size in
-    let long = flat_length (listed n) p cycles (all_long cycles) in
+    let long = listed_long n cycles in
     let least : p ≤ length cycles * p = many_times p (length cycles) some in
     let filled : (length (flat_map (listed n) cycles) == 0) ≡ false = ne_eqb (length (flat_map (listed n) cycles)) 0 (λ e. let never : ⊥ = omega arith in never) in
     let even : (length (flat_map (listed n) cycles) % p == 0) ≡ true = eq-eqb (length (flat_map (listed n) cycles) % p) 0 (ap (λ (k : ℕ). k % p) long ∙ times_mod n (length cycles) size) in
-    rw (filled, even) refl where
-      all_long : (frames : List Frames) → AllByRecursion (λ x. length (listed n x) ≡ per_cycle n) frames
-      all_long [] = tt
-      all_long (x ∷ xs) = (listed_length n x, all_long xs)
+    rw (filled, even) refl
 
 -- **The text of a trace is read to its frames.**
 pub reads_back : ReadsBack

@@ -1,5 +1,6 @@
 //! Laws of the traces of played runs: the body of each function is empty, and its clause is the law.
 
+ghost use Rattle.audited_runs.specs.Audited.{AnswersFollows, EndsFollowing, TraceFollows};
 ghost use Rattle.audited_runs.specs.Played.{PlaysInputs, PlaysRunFrames};
 ghost use Rattle.audited_runs.specs.ReadBack.{ReadsBack};
 
@@ -16,4 +17,19 @@ pub fn plays_run_frames()
 /// The text of a trace is read to its frames.
 pub fn reads_back()
     ensures { ReadsBack }
+{}
+
+/// The trace of a played run without a rejoin follows for its faulty element, or for none.
+pub fn trace_follows()
+    ensures { TraceFollows }
+{}
+
+/// So that it follows is the one right answer of an audit.
+pub fn answers_follows()
+    ensures { AnswersFollows }
+{}
+
+/// And a call that audits it ends with the line that says so.
+pub fn ends_following()
+    ensures { EndsFollowing }
 {}
