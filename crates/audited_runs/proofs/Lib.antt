@@ -4,3 +4,5 @@ pub mod ByteFrames
 pub mod PlayedInputs
 pub mod PlayedFrames
 pub mod AuditedTraces
+pub mod ReadTables
+pub mod Calls

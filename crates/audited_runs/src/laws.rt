@@ -1,6 +1,6 @@
 //! Laws of the traces of played runs: the body of each function is empty, and its clause is the law.
 
-ghost use Rattle.audited_runs.specs.Audited.{AnswersFollows, EndsFollowing, TraceFollows};
+ghost use Rattle.audited_runs.specs.Audited.{AnswersFollows, AuditsOfTraces, EndsFollowing, LoadsPlayable, TraceFollows};
 ghost use Rattle.audited_runs.specs.Played.{PlaysInputs, PlaysRunFrames};
 ghost use Rattle.audited_runs.specs.ReadBack.{ReadsBack};
 
@@ -32,4 +32,14 @@ pub fn answers_follows()
 /// And a call that audits it ends with the line that says so.
 pub fn ends_following()
     ensures { EndsFollowing }
+{}
+
+/// What a call loads is a script that can be played, on a valid table.
+pub fn loads_playable()
+    ensures { LoadsPlayable }
+{}
+
+/// **What a call of `trace` writes, a call of `audit` answers `follows`.**
+pub fn audits_of_traces()
+    ensures { AuditsOfTraces }
 {}
