@@ -1,20 +1,18 @@
 -- The trace of a played run without a rejoin follows, so the audit of it says so.
-use Rattle.std.proofs.Common.{◌≡◌, ℕ, zero, suc, ◌+◌, ◌*◌, ◌<◌, ◌≤◌, List, [], ◌∷◌, length, refl, ap, arith, sym, ◌∙◌, subst, inl, inr, Ok, Err}
-use Rattle.std.specs.Prelude.{Option, Some, None, Result, filter}
+use Rattle.std.proofs.Common.{◌≡◌, ℕ, zero, suc, ◌*◌, List, [], length, refl, ap, arith, sym, ◌∙◌, subst, inl, inr, Ok, Err}
+use Rattle.std.specs.Prelude.{Option, None, Result, filter}
 use Rattle.std.specs.List.{AllByRecursion, flat_map}
 use Rattle.std.proofs.lemmas.List.FromFn.{length-map-range_with_len}
 use Rattle.ftpp_base.specs.Lists.{below}
 use Rattle.two_round.proofs.Others.{IsSize}
 use Rattle.config_table.specs.Table.{TableValue, IsValid}
 use Rattle.script_text.specs.Reading.{Plan}
-use Rattle.script_text.specs.Playable.{IsPlayable}
 use Rattle.script_text.specs.declared.ScriptError.{ScriptError}
 use Rattle.script_text.specs.declared.ScriptError.TheVariants.{At, Memory}
-use Rattle.element_core.specs.Cycle.{Input}
 use Rattle.element_core.proofs.AloneLaws.{size_of}
 use Rattle.element_core.proofs.Sound.{start_sound}
 use Rattle.report_text.specs.Trace.{carried_lines}
-use Rattle.report_text.specs.PlayedCycle.{Standing, is_of_cycle, first_next, next_at, faulty_after, faulty_in, rejoined_by, rejoined_in, input_played}
+use Rattle.report_text.specs.PlayedCycle.{Standing, is_of_cycle, first_next, next_at, faulty_after, faulty_in, rejoined_by, input_played}
 use Rattle.report_text.specs.PlayedRun.{standing_at, journal_of, trace_text}
 use Rattle.trace_audit.specs.declared.audit.Verdict.{Verdict}
 use Rattle.trace_audit.specs.declared.audit.Verdict.TheVariants as verdict
@@ -23,12 +21,10 @@ use Rattle.trace_audit.specs.Laws.{IsCalm}
 use Rattle.trace_audit.specs.AuditedTrace.{trace_of, Judges, Audits}
 use Rattle.trace_audit.proofs.RunLaw.{runs_follow}
 use Rattle.trace_audit.proofs.Verdicts.{never_both}
-use Rattle.command_steps.specs.declared.status.Status.{Status}
 use Rattle.command_steps.specs.Ends.{Ends}
-use Rattle.command_steps.specs.Loading.{Run}
 use Rattle.ftpp_top.specs.Audited.{judged}
 use Rattle.audited_runs.specs.Played.{frames_in_cycle, frames_of_run}
-use Rattle.audited_runs.specs.Audited.{IsCalmRun, HasFollowingTrace, TraceFollows, AnswersFollows, EndsFollowing}
+use Rattle.audited_runs.specs.Audited.{TraceFollows, AnswersFollows, EndsFollowing}
 use Rattle.audited_runs.proofs.ByteFrames.{all_made}
 use Rattle.audited_runs.proofs.PlacedLines.{listed_long, reads_back}
 use Rattle.audited_runs.proofs.PlayedInputs.{plays_inputs}

@@ -1,5 +1,5 @@
 -- A line can spell each frame that an element sends, and each that edits make of such frames.
-use Rattle.std.proofs.Common.{◌≡◌, ℕ, zero, suc, ◌+◌, ◌*◌, ◌<◌, ◌≤◌, Bool, true, false, cond, List, [], ◌∷◌, ◌++◌, length, map, refl, arith}
+use Rattle.std.proofs.Common.{ℕ, zero, suc, ◌<◌, List, [], ◌∷◌, map, arith}
 use Rattle.std.specs.Prelude.{slice_index, slice_set, bit_xor, filter, Some, None, not, ◌&&◌, ◌==◌}
 use Rattle.std.specs.List.{AllByRecursion, flat_map, fold}
 use Rattle.std.proofs.lemmas.List.{length-set}
@@ -9,7 +9,6 @@ use Rattle.ftpp_base.specs.declared.element.Round.{Round}
 use Rattle.ftpp_base.specs.declared.element.Round.TheVariants.{A1, A2, B1, B2}
 use Rattle.ftpp_base.specs.declared.element.Slot.{Slot}
 use Rattle.ftpp_base.proofs.Among.{all-get_or, all-append, all-replicate, all-filter, either}
-use Rattle.packet_format.specs.Numbers.{four_bytes}
 use Rattle.bit_vote.specs.Vote.{Cell, IsCell}
 use Rattle.bit_vote.specs.Agreed.{FirstRound, copy_at}
 use Rattle.frame_format.specs.Frames.{kind_byte, width_in, cell_bytes, frame_bytes}

@@ -1,5 +1,5 @@
 -- What calls load can be played, and a call of `audit` of what a call of `trace` wrote ends with `follows`.
-use Rattle.std.proofs.Common.{◌≡◌, ℕ, ◌<◌, ◌≤◌, Bool, true, false, cond, List, [], length, refl, ap, arith, sym, ◌∙◌, subst, ◌⊎◌, inl, inr, Ok, Err}
+use Rattle.std.proofs.Common.{◌≡◌, ℕ, ◌≤◌, Bool, true, false, cond, List, [], length, refl, ap, sym, ◌∙◌, subst, ◌⊎◌, inl, inr, Ok, Err}
 use Rattle.std.specs.Prelude.{Option, Some, None, Result, nat_lt}
 use Rattle.std.proofs.lemmas.Bool.{lt-ltb, le-ltb}
 use Rattle.ftpp_outside.specs.Files.{NamedBytes, bytes_of}
@@ -15,9 +15,9 @@ use Rattle.command_words.specs.Commands.{Trace, Audit}
 use Rattle.command_steps.specs.declared.status.Status.{Status}
 use Rattle.command_steps.specs.Ends.{Outcome, Output, Exactly, WithTable, Anything, Ends, done_with, too_long}
 use Rattle.command_steps.specs.Known.{Known, Untold, Ending, Given, ◌>>=◌, IsHalt}
-use Rattle.command_steps.specs.Loading.{Run, file_limit, script_limit, table_or, table_of_file, table_if_there, table_named, table_for, bytes_within, bytes_told, plan_or, plan_of_bytes, plan_told, element_in, if_has, table_with, run_on, run_for}
-use Rattle.ftpp_top.specs.Audited.{Audited, Judged, EndsAudit}
-use Rattle.ftpp_top.specs.Commands.{audited_bytes, audit_on, audit_for, ends_of, audited_of}
+use Rattle.command_steps.specs.Loading.{Run, file_limit, script_limit, table_or, table_of_file, table_if_there, table_named, table_for, bytes_within, bytes_told, plan_or, plan_of_bytes, plan_told, if_has, run_on, run_for}
+use Rattle.ftpp_top.specs.Audited.{Audited, Judged}
+use Rattle.ftpp_top.specs.Commands.{ends_of, audited_of}
 use Rattle.audited_runs.specs.Audited.{IsCalmRun, audit_of, following, LoadsPlayable, AuditsOfTraces}
 use Rattle.audited_runs.proofs.ReadTables.{read_valid}
 use Rattle.audited_runs.proofs.AuditedTraces.{ends_following}

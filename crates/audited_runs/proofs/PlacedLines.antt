@@ -1,5 +1,5 @@
 -- The lines of a trace stand each at its place, so the text is read to its frames.
-use Rattle.std.proofs.Common.{◌≡◌, ℕ, zero, suc, ◌+◌, ◌*◌, ◌%◌, ◌<◌, ◌≤◌, Bool, true, false, not, eqb, List, [], ◌∷◌, ◌++◌, length, map, length-append, refl, ap, sym, ◌∙◌, arith, append_assoc, append-nil, subst, inl, inr, Some, Ok}
+use Rattle.std.proofs.Common.{◌≡◌, ℕ, zero, suc, ◌+◌, ◌*◌, ◌%◌, ◌<◌, ◌≤◌, true, false, List, [], ◌∷◌, ◌++◌, length, map, length-append, refl, ap, sym, ◌∙◌, arith, append_assoc, append-nil, subst, inl, inr, Some, Ok}
 use Rattle.std.specs.Prelude.{◌==◌, count_by}
 use Rattle.std.specs.List.{flat_map, range_with_len, list_all, AllByRecursion}
 use Rattle.std.proofs.lemmas.Bool.{eq-eqb, ne_eqb}
@@ -7,13 +7,12 @@ use Rattle.std.proofs.lemmas.List.{map-append}
 use Rattle.std.proofs.Math.Nat.{suc-mul, zero-mul}
 use Rattle.std.proofs.lemmas.List.FromFn.{length-map-range_with_len}
 use Rattle.ftpp_base.specs.Lists.{below}
-use Rattle.ftpp_base.specs.declared.element.Round.{Round}
 use Rattle.two_round.proofs.Others.{IsSize}
 use Rattle.link_fabric.specs.declared.fabrics.Carried.{Carried}
 use Rattle.script_words.specs.Lines.{is_newline}
 use Rattle.script_text.specs.Printing.{AreBytes}
 use Rattle.report_text.specs.Words.{bytes_text}
-use Rattle.report_text.specs.Trace.{carried_line, carried_lines, IsOfRun, cycle_frames}
+use Rattle.report_text.specs.Trace.{carried_lines, IsOfRun, cycle_frames}
 use Rattle.trace_audit.specs.Known.{Frames}
 use Rattle.trace_audit.specs.Trace.{listed, per_cycle}
 use Rattle.trace_audit.specs.Links.{link_at}
@@ -21,7 +20,7 @@ use Rattle.trace_audit.specs.AuditedTrace.{line_head, head_at, frame_on, frames_
 use Rattle.trace_audit.proofs.Places.{link_there}
 use Rattle.trace_audit.proofs.Listed.{flat_length, listed_length}
 use Rattle.trace_audit.proofs.FirstBreak.{split, some_frames}
-use Rattle.audited_runs.specs.ReadBack.{IsSpelled, AreSpelled, carried_from, ReadsBack}
+use Rattle.audited_runs.specs.ReadBack.{AreSpelled, carried_from, ReadsBack}
 use Rattle.audited_runs.proofs.SpelledLines.{is_inside, line_read, line_inside, ended, line_ended, lines_again}
 
 -- ---- a frame as it is carried

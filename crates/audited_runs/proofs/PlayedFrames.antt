@@ -1,28 +1,26 @@
 -- The frames of a played run are those of the run of its journal, a line can spell each, and they are what is carried.
-use Rattle.std.proofs.Common.{◌≡◌, ◌≢◌, ℕ, zero, suc, ◌+◌, ◌<◌, ◌≤◌, Bool, true, false, cond, List, [], ◌∷◌, ◌++◌, length, map, refl, ap, arith, sym, ◌∙◌, subst}
-use Rattle.std.specs.Prelude.{Option, Some, None, ◌==◌}
-use Rattle.std.specs.List.{AllByRecursion, flat_map, range_with_len}
+use Rattle.std.proofs.Common.{◌≡◌, ◌≢◌, ℕ, zero, suc, ◌+◌, ◌<◌, Bool, true, false, cond, List, ◌++◌, map, refl, ap, arith, sym, ◌∙◌, subst}
+use Rattle.std.specs.Prelude.{Option, None}
+use Rattle.std.specs.List.{flat_map, range_with_len}
 use Rattle.std.proofs.lemmas.Bool.{ne_eqb}
-use Rattle.ftpp_base.specs.Lists.{below, each_below, cell_at, is_this}
+use Rattle.ftpp_base.specs.Lists.{below, cell_at, is_this}
 use Rattle.ftpp_base.specs.declared.element.Round.{Round}
 use Rattle.ftpp_base.specs.declared.element.Round.TheVariants.{A1, B1}
-use Rattle.bit_vote.specs.Vote.{Cell}
 use Rattle.two_round.proofs.Agreement.{at_place}
 use Rattle.two_round.proofs.Held.{is_this-true}
-use Rattle.frame_format.specs.Frames.{first_cell, reads_as}
-use Rattle.config_table.specs.Table.{TableValue, IsValid}
+use Rattle.frame_format.specs.Frames.{first_cell}
+use Rattle.config_table.specs.Table.{TableValue}
 use Rattle.script_text.specs.Reading.{Plan}
 use Rattle.script_text.specs.Playable.{IsPlayable}
 use Rattle.element_core.specs.Cycle.{State, Input, Shown, step, shown_by}
 use Rattle.element_core.specs.Sent.{frame_sent}
 use Rattle.ftpp_base.proofs.Among.{either}
 use Rattle.report_text.specs.Trace.{cycle_frames}
-use Rattle.report_text.specs.PlayedCycle.{Standing, faulty_in, slot_of, frame_played, read_played, cell_played, first_cells, input_asked, with_patterns, input_played, cycle_played, frame_between}
-use Rattle.report_text.specs.PlayedRun.{standing_at, shown_in, journal_of, frames_at, frames_played}
-use Rattle.trace_audit.specs.Known.{Frames}
+use Rattle.report_text.specs.PlayedCycle.{Standing, faulty_in, frame_played, read_played, cell_played, first_cells, input_asked, with_patterns, input_played, cycle_played, frame_between}
+use Rattle.report_text.specs.PlayedRun.{standing_at, journal_of, frames_at, frames_played}
 use Rattle.trace_audit.specs.Laws.{AreFramesOf, AreRunFrames}
 use Rattle.audited_runs.specs.ReadBack.{IsSpelled, AreSpelled, carried_from}
-use Rattle.audited_runs.specs.Played.{frames_in_cycle, frames_of_run, PlaysRunFrames}
+use Rattle.audited_runs.specs.Played.{frames_in_cycle, PlaysRunFrames}
 use Rattle.audited_runs.proofs.ByteFrames.{all_made}
 use Rattle.audited_runs.proofs.PlayedInputs.{Stands, played_spelled, made_spelled, stands_at}
 
@@ -98,9 +96,11 @@ module _ (table : TableValue) (plan : Plan) where
   run_from : (a n : ℕ) → AreRunFrames (standing_at table plan a).state (map input_at (range_with_len a n)) (map (frames_in_cycle table plan) (range_with_len a n))
   run_from a zero = tt
   run_from a (suc n) =
-      let one : a + 1 ≡ suc a = omega arith in
-      (here a, subst (λ (s : State). AreRunFrames s (map input_at (range_with_len (a + 1) n)) (map (frames_in_cycle table plan) (range_with_len (a + 1) n)))
-      (ap (λ (k : ℕ). (standing_at table plan k).state) one ∙ sym (next_state a)) (run_from (a + 1) n))
+      let one : a + 1 ≡ suc a = omega arith in (
+        here a,
+        subst (λ (s : State). AreRunFrames s (map input_at (range_with_len (a + 1) n)) (map (frames_in_cycle table plan) (range_with_len (a + 1) n)))
+            (ap (λ (k : ℕ). (standing_at table plan k).state) one ∙ sym (next_state a)) (run_from (a + 1) n),
+      )
 
   carried_same : ((k : ℕ) → (standing_at table plan k).state.table.n ≡ table.n) → (a n : ℕ) → flat_map (frames_at table plan) (range_with_len a n) ≡ carried_from table.n a (map (frames_in_cycle table plan) (range_with_len a n))
   carried_same size a zero = refl

@@ -1,5 +1,5 @@
 -- What comes from outside in each cycle of a played run is an input of the run.
-use Rattle.std.proofs.Common.{◌≡◌, ℕ, zero, suc, ◌<◌, ◌≤◌, Bool, true, false, cond, List, [], ◌∷◌, length, map, replicate, refl, ap, arith, sym, ◌∙◌, subst, inl, inr}
+use Rattle.std.proofs.Common.{◌≡◌, ℕ, zero, suc, ◌<◌, List, [], ◌∷◌, length, map, replicate, refl, arith, sym, ◌∙◌, subst, inl, inr}
 use Rattle.std.specs.Prelude.{Option, Some, None, filter, ◌==◌}
 use Rattle.std.specs.List.{AllByRecursion}
 use Rattle.std.proofs.lemmas.List.{length-replicate}
@@ -15,16 +15,15 @@ use Rattle.two_round.proofs.Others.{IsSize}
 use Rattle.frame_format.specs.Frames.{width_in, first_cell}
 use Rattle.config_table.specs.Table.{TableValue, IsValid}
 use Rattle.cluster.proofs.Reading.{none_cell, read_cell}
-use Rattle.fault_script.specs.declared.Edit.{Edit}
 use Rattle.script_text.specs.Reading.{Plan}
-use Rattle.script_text.specs.Printing.{IsOther, ActFits, KindFits}
+use Rattle.script_text.specs.Printing.{IsOther, ActFits}
 use Rattle.script_text.specs.Playable.{IsPlayable, IsThere, AreOthers, ActIsThere, EditIsThere}
 use Rattle.element_core.specs.Cycle.{State, Input, Shown, step, shown_by}
 use Rattle.element_core.specs.Sent.{frame_sent}
 use Rattle.element_core.specs.Alone.{IsSound, IsInput, IsAct}
 use Rattle.element_core.proofs.AloneLaws.{size_of}
 use Rattle.element_core.proofs.Sound.{start_sound, step_sound, step_size}
-use Rattle.report_text.specs.PlayedCycle.{Standing, is_of_cycle, acts_at, first_next, next_at, faulty_after, faulty_in, rejoined_in, slot_of, earlier_frame, frame_played, read_played, cell_played, first_cells, input_asked, with_patterns, input_played, cycle_played, own_frames, standing_after}
+use Rattle.report_text.specs.PlayedCycle.{Standing, is_of_cycle, acts_at, first_next, faulty_after, faulty_in, rejoined_in, slot_of, earlier_frame, frame_played, read_played, cell_played, first_cells, input_asked, with_patterns, input_played, cycle_played, own_frames, standing_after}
 use Rattle.report_text.specs.PlayedRun.{standing_at, journal_of}
 use Rattle.audited_runs.specs.ReadBack.{IsSpelled}
 use Rattle.audited_runs.specs.Played.{PlaysInputs}

@@ -1,5 +1,5 @@
 -- A line of a trace is read to the frame that it spells, and the text is cut into its lines.
-use Rattle.std.proofs.Common.{◌≡◌, ℕ, zero, suc, ◌+◌, ◌*◌, ◌/◌, ◌%◌, ◌^◌, ◌<◌, ◌≤◌, Bool, true, false, not, eqb, leb, List, [], ◌∷◌, ◌++◌, length, get_or, take, drop, length-append, refl, ap, sym, ◌∙◌, arith, append_assoc, Some, Ok, All, rules}
+use Rattle.std.proofs.Common.{◌≡◌, ℕ, zero, suc, ◌/◌, ◌%◌, ◌^◌, ◌<◌, Bool, true, false, not, eqb, leb, List, [], ◌∷◌, ◌++◌, length, get_or, length-append, refl, ap, ◌∙◌, arith, append_assoc, Some, Ok}
 use Rattle.std.specs.Prelude.{slice_index, ◌&&◌, codes}
 use Rattle.std.specs.List.{slice_split, list_all, flat_map, AllByRecursion}
 use Rattle.std.specs.Fmt.{decimal}
@@ -17,7 +17,6 @@ use Rattle.ftpp_base.specs.declared.element.Round.TheVariants.{A1, A2, B1, B2}
 use Rattle.packet_format.specs.Packets.{same_bytes}
 use Rattle.script_words.specs.Lines.{is_newline}
 use Rattle.script_words.specs.Fields.{is_word, frame_of}
-use Rattle.script_text.specs.Printing.{AreBytes}
 use Rattle.script_text.proofs.Printed.{is_plain, decimal_word}
 use Rattle.report_text.specs.Words.{bytes_text, round_text}
 use Rattle.report_text.specs.Lines.{trace_line}
