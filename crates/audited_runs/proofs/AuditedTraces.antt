@@ -58,7 +58,7 @@ calm_all table plan none = all_made (IsCalm plan.faulty) (λ cycle. input_played
 
 -- ---- the trace
 
-size_is : (table : TableValue) → IsValid table → IsSize table.n
+pub size_is : (table : TableValue) → IsValid table → IsSize table.n
 size_is table valid = size_of _ (start_sound table valid)
 
 pub trace_follows : TraceFollows
@@ -80,7 +80,7 @@ trace_follows r is =
 
 -- ---- the answer
 
-same_times : (n a b : ℕ) → IsSize n → a * per_cycle n ≡ b * per_cycle n → a ≡ b
+pub same_times : (n a b : ℕ) → IsSize n → a * per_cycle n ≡ b * per_cycle n → a ≡ b
 same_times n a b (inl e) = subst (λ k. a * per_cycle k ≡ b * per_cycle k → a ≡ b) (sym e) (λ g. omega arith)
 same_times n a b (inr e) = subst (λ k. a * per_cycle k ≡ b * per_cycle k → a ≡ b) (sym e) (λ g. omega arith)
 
@@ -91,7 +91,7 @@ judged_so table named frames cycles (verdict.Follows k) size f whole j = ap verd
 judged_so table named frames cycles (verdict.Breaks at from to) size f whole j = absurd (never_both table named frames at.cycle at.round from to f j)
 
 -- a result gives one value
-ok_same : {A E : Type 0} (result : Result A E) (x y : A) → result ≡ Ok x → result ≡ Ok y → x ≡ y
+pub ok_same : {A E : Type 0} (result : Result A E) (x y : A) → result ≡ Ok x → result ≡ Ok y → x ≡ y
 ok_same result x y e g = cc
 
 answer_by : (table : TableValue) (named : Option ℕ) (bytes : List ℕ) (frames : List (List ℕ)) (cycles : ℕ) (answer : Result Verdict ScriptError) → IsSize table.n

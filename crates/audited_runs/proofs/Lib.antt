@@ -6,3 +6,4 @@ pub mod PlayedFrames
 pub mod AuditedTraces
 pub mod ReadTables
 pub mod Calls
+pub mod OneAnswer

@@ -1,3 +1,4 @@
 pub mod ReadBack
 pub mod Played
 pub mod Audited
+pub mod OneAnswer

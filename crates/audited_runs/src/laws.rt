@@ -1,6 +1,7 @@
 //! Laws of the traces of played runs: the body of each function is empty, and its clause is the law.
 
 ghost use Rattle.audited_runs.specs.Audited.{AnswersFollows, AuditsOfTraces, EndsFollowing, LoadsPlayable, TraceFollows};
+ghost use Rattle.audited_runs.specs.OneAnswer.{OneAnswer};
 ghost use Rattle.audited_runs.specs.Played.{PlaysInputs, PlaysRunFrames};
 ghost use Rattle.audited_runs.specs.ReadBack.{ReadsBack};
 
@@ -42,4 +43,9 @@ pub fn loads_playable()
 /// **What a call of `trace` writes, a call of `audit` answers `follows`.**
 pub fn audits_of_traces()
     ensures { AuditsOfTraces }
+{}
+
+/// A text has one right answer at most.
+pub fn one_answer()
+    ensures { OneAnswer }
 {}
