@@ -7,3 +7,4 @@ pub mod AuditedTraces
 pub mod ReadTables
 pub mod Calls
 pub mod OneAnswer
+pub mod Worked

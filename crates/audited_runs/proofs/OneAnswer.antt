@@ -2,10 +2,9 @@
 use Rattle.std.proofs.Common.{◌≡◌, ℕ, zero, suc, ◌<◌, ◌≤◌, List, drop, refl, ap, arith, sym, ◌∙◌, subst, ◌⊎◌, inl, inr, Ok, Err}
 use Rattle.std.specs.Prelude.{Option, Result}
 use Rattle.std.proofs.lemmas.Bool.{cases_lt}
-use Rattle.ftpp_base.specs.declared.element.Slot.{Slot}
 use Rattle.ftpp_base.specs.declared.element.Round.{Round}
 use Rattle.two_round.proofs.Others.{IsSize}
-use Rattle.config_table.specs.Table.{TableValue, IsValid}
+use Rattle.config_table.specs.Table.{TableValue}
 use Rattle.script_text.specs.Reading.{Refusal}
 use Rattle.script_text.specs.declared.ScriptError.{ScriptError}
 use Rattle.script_text.specs.declared.ScriptError.TheVariants.{At, Memory}
@@ -14,7 +13,7 @@ use Rattle.trace_audit.specs.declared.audit.Verdict.TheVariants as verdict
 use Rattle.trace_audit.specs.Known.{Known, Frames, known_first, known_after}
 use Rattle.trace_audit.specs.Trace.{per_cycle, place_of, frames_in, BreaksFrom, IsFirstUnexpected}
 use Rattle.trace_audit.specs.Links.{link_at}
-use Rattle.trace_audit.specs.AuditedTrace.{trace_of, Judges, Audits}
+use Rattle.trace_audit.specs.AuditedTrace.{trace_of, Judges}
 use Rattle.trace_audit.proofs.FirstBreak.{size_after}
 use Rattle.trace_audit.proofs.Places.{link_back}
 use Rattle.trace_audit.proofs.Verdicts.{never_both}

@@ -25,16 +25,14 @@ use Rattle.audited_runs.specs.ReadBack.{IsSpelled}
 
 -- ---- the bytes of a frame
 
-longer_word : (x y a : ℕ) (xs : List ℕ) → is_word (x ∷ y ∷ xs) (a ∷ []) ≡ false
-longer_word x y a xs = and_no (eqb x a) where
-  and_no : (b : Bool) → (b && false) ≡ false
-  and_no true = refl
-  and_no false = refl
+and_none : (b : Bool) → (b && false) ≡ false
+and_none true = refl
+and_none false = refl
 
--- the digits of bytes are not a dash
+-- the digits of bytes are more than a dash
 not_dash : (b : ℕ) (bytes : List ℕ) → is_word (encode_lower (b ∷ bytes)) (codes "-") ≡ false
 unfolding encode_with
-not_dash b bytes = longer_word (slice_index lower_digits (b / 16)) (slice_index lower_digits (b % 16)) 45 (encode_with lower_digits bytes)
+not_dash b bytes = and_none (eqb (slice_index lower_digits (b / 16)) 45)
 
 -- they are read to the bytes
 frame_read : (bytes : List ℕ) → IsSpelled bytes → frame_of (bytes_text bytes) ≡ Ok (record { items = bytes })

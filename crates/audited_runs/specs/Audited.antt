@@ -23,6 +23,10 @@ pub record IsCalmRun (r : Run) : Type 0 where
   pub playable : IsPlayable r.table.n r.plan
   pub calm : r.plan.rejoins ≡ []
 
+-- There is one.
+abbrev pub SomeRunIsCalm : Type 0
+SomeRunIsCalm = (r : Run) × IsCalmRun r
+
 -- The text of its trace is read to these frames, as many as its cycles have, and they follow for its faulty element, or for none.
 pub record HasFollowingTrace (r : Run) : Type 0 where
   pub frames : List (List ℕ)

@@ -1,6 +1,6 @@
 //! Laws of the traces of played runs: the body of each function is empty, and its clause is the law.
 
-ghost use Rattle.audited_runs.specs.Audited.{AnswersFollows, AuditsOfTraces, EndsFollowing, LoadsPlayable, TraceFollows};
+ghost use Rattle.audited_runs.specs.Audited.{AnswersFollows, AuditsOfTraces, EndsFollowing, LoadsPlayable, SomeRunIsCalm, TraceFollows};
 ghost use Rattle.audited_runs.specs.OneAnswer.{OneAnswer};
 ghost use Rattle.audited_runs.specs.Played.{PlaysInputs, PlaysRunFrames};
 ghost use Rattle.audited_runs.specs.ReadBack.{ReadsBack};
@@ -18,6 +18,11 @@ pub fn plays_run_frames()
 /// The text of a trace is read to its frames.
 pub fn reads_back()
     ensures { ReadsBack }
+{}
+
+/// There is a script without a rejoin that can be played, on a valid table.
+pub fn some_run_is_calm()
+    ensures { SomeRunIsCalm }
 {}
 
 /// The trace of a played run without a rejoin follows for its faulty element, or for none.
