@@ -1,5 +1,6 @@
 use config_table::{ConfigError, Group, Table};
 use ftpp_base::{Proc, Row, Set8};
+use std::test::Fail;
 
 /// The built-in table of four elements.
 fn four_elements() -> [Group; 5] {
@@ -17,165 +18,25 @@ fn error_of(n: u8, manager: u8, groups: &[Group]) -> Option<ConfigError> {
     Table::new(n, manager, groups).err()
 }
 
-/// What is wrong with the table of four elements where one group is another.
-fn error_with(place: usize, group: Group) -> Option<ConfigError> {
-    let mut groups = four_elements();
-    groups[place.min(4)] = group;
-    error_of(4, 1, &groups)
-}
-
-/// The fourth group, to be changed.
-fn fourth() -> Group {
-    Group::usual(4, &[(3, 1)])
+/// Whether a table of these parts is refused with this error, which has that code.
+fn is_refused(n: u8, manager: u8, groups: &[Group], error: ConfigError, code: u8) -> bool {
+    error_of(n, manager, groups) == Some(error) && error.code() == code
 }
 
 #[test]
-fn names_the_first_broken_clause(rt: HostRuntime) {
-    let proc = Proc { ne: 3, port: 0 };
-    for (error, want, code) in [
+fn refuses_other_sizes_and_managers(rt: HostRuntime) {
+    let groups = four_elements();
+    let all = groups.as_slice();
+    let none = &all[..0];
+    for (n, manager, groups, error, code) in [
+        (3, 1, all, ConfigError::Elements { n: 3 }, 1),
+        (6, 1, none, ConfigError::Elements { n: 6 }, 1),
+        (4, 1, none, ConfigError::GroupCount { count: 0 }, 2),
+        (4, 6, all, ConfigError::Manager { manager: 6 }, 11),
         (
-            error_of(3, 1, &four_elements()),
-            ConfigError::Elements { n: 3 },
-            1,
-        ),
-        (error_of(6, 1, &[]), ConfigError::Elements { n: 6 }, 1),
-        (error_of(4, 1, &[]), ConfigError::GroupCount { count: 0 }, 2),
-        (
-            error_with(0, Group::usual(0, &[(0, 0)])),
-            ConfigError::Vid { vid: 0 },
-            3,
-        ),
-        (
-            error_with(4, Group::usual(255, &[(0, 3)])),
-            ConfigError::Vid { vid: 255 },
-            3,
-        ),
-        (
-            error_with(4, Group::usual(4, &[(0, 3)])),
-            ConfigError::VidOrder { vid: 4 },
             4,
-        ),
-        (
-            error_with(3, Group::usual(4, &[(3, 1), (2, 5)])),
-            ConfigError::Size { vid: 4, size: 2 },
-            5,
-        ),
-        (
-            error_with(3, Group::usual(4, &[])),
-            ConfigError::Size { vid: 4, size: 0 },
-            5,
-        ),
-        (
-            error_with(3, Group::usual(4, &[(4, 1)])),
-            ConfigError::MemberRange {
-                vid: 4,
-                proc: Proc { ne: 4, port: 1 },
-            },
-            6,
-        ),
-        (
-            error_with(3, Group::usual(4, &[(3, 8)])),
-            ConfigError::MemberRange {
-                vid: 4,
-                proc: Proc { ne: 3, port: 8 },
-            },
-            6,
-        ),
-        (
-            error_with(3, Group::usual(4, &[(3, 1), (2, 5), (3, 6)])),
-            ConfigError::SameElement { vid: 4, ne: 3 },
-            7,
-        ),
-        (
-            error_with(3, Group::usual(4, &[(3, 0)])),
-            ConfigError::SharedProcessor { vid: 4, proc },
-            8,
-        ),
-        (
-            error_with(
-                3,
-                Group {
-                    masked: Set8 { bits: 2 },
-                    ..fourth()
-                },
-            ),
-            ConfigError::Masked { vid: 4, masked: 2 },
-            9,
-        ),
-        (
-            error_with(
-                3,
-                Group {
-                    masked: Set8 { bits: 1 },
-                    ..fourth()
-                },
-            ),
-            ConfigError::Masked { vid: 4, masked: 1 },
-            9,
-        ),
-        (
-            error_with(
-                3,
-                Group {
-                    ts: 0,
-                    outs: 0,
-                    ..fourth()
-                },
-            ),
-            ConfigError::Timeout { vid: 4, value: 0 },
-            10,
-        ),
-        (
-            error_with(
-                3,
-                Group {
-                    tr: 1001,
-                    ..fourth()
-                },
-            ),
-            ConfigError::Timeout {
-                vid: 4,
-                value: 1001,
-            },
-            10,
-        ),
-        (
-            error_with(
-                3,
-                Group {
-                    tx: 1001,
-                    ..fourth()
-                },
-            ),
-            ConfigError::Expiry {
-                vid: 4,
-                value: 1001,
-            },
-            16,
-        ),
-        (
-            error_with(
-                3,
-                Group {
-                    outs: 65,
-                    ..fourth()
-                },
-            ),
-            ConfigError::Slots { vid: 4, value: 65 },
-            17,
-        ),
-        (
-            error_with(3, Group { ins: 0, ..fourth() }),
-            ConfigError::Slots { vid: 4, value: 0 },
-            17,
-        ),
-        (
-            error_of(4, 6, &four_elements()),
-            ConfigError::Manager { manager: 6 },
-            11,
-        ),
-        (
-            error_of(4, 4, &four_elements()),
+            4,
+            all,
             ConfigError::ManagerLive {
                 manager: 4,
                 live: 1,
@@ -183,8 +44,132 @@ fn names_the_first_broken_clause(rt: HostRuntime) {
             12,
         ),
     ] {
-        assert_eq!(rt; error, Some(want));
-        assert_eq!(rt; want.code(), code);
+        assert!(rt; is_refused(n, manager, groups, error, code), "{error:?}");
+    }
+}
+
+/// Whether the table of four elements, where one group is another, is refused so.
+fn is_refused_with(place: usize, group: Group, error: ConfigError, code: u8) -> bool {
+    let mut groups = four_elements();
+    groups[place.min(4)] = group;
+    is_refused(4, 1, &groups, error, code)
+}
+
+/// A group in place of another, the error and its code.
+type Case = (usize, Group, ConfigError, u8);
+
+/// Groups whose number or members are wrong.
+fn wrong_members() -> [Case; 9] {
+    let fourth = |members: &[(u8, u8)]| Group::usual(4, members);
+    let shared = Proc { ne: 3, port: 0 };
+    let no_element = Proc { ne: 4, port: 1 };
+    let no_port = Proc { ne: 3, port: 8 };
+    [
+        (
+            0,
+            Group::usual(0, &[(0, 0)]),
+            ConfigError::Vid { vid: 0 },
+            3,
+        ),
+        (
+            4,
+            Group::usual(255, &[(0, 3)]),
+            ConfigError::Vid { vid: 255 },
+            3,
+        ),
+        (
+            4,
+            Group::usual(4, &[(0, 3)]),
+            ConfigError::VidOrder { vid: 4 },
+            4,
+        ),
+        (
+            3,
+            fourth(&[(3, 1), (2, 5)]),
+            ConfigError::Size { vid: 4, size: 2 },
+            5,
+        ),
+        (3, fourth(&[]), ConfigError::Size { vid: 4, size: 0 }, 5),
+        (
+            3,
+            fourth(&[(4, 1)]),
+            ConfigError::MemberRange {
+                vid: 4,
+                proc: no_element,
+            },
+            6,
+        ),
+        (
+            3,
+            fourth(&[(3, 8)]),
+            ConfigError::MemberRange {
+                vid: 4,
+                proc: no_port,
+            },
+            6,
+        ),
+        (
+            3,
+            fourth(&[(3, 1), (2, 5), (3, 6)]),
+            ConfigError::SameElement { vid: 4, ne: 3 },
+            7,
+        ),
+        (
+            3,
+            fourth(&[(3, 0)]),
+            ConfigError::SharedProcessor {
+                vid: 4,
+                proc: shared,
+            },
+            8,
+        ),
+    ]
+}
+
+/// The fourth group with a set of masked members.
+fn masked(bits: u8) -> Group {
+    let mut group = Group::usual(4, &[(3, 1)]);
+    group.masked = Set8 { bits };
+    group
+}
+
+/// The fourth group with other numbers.
+fn numbered(ts: u16, tr: u16, tx: u16, outs: u8, ins: u8) -> Group {
+    let mut group = Group::usual(4, &[(3, 1)]);
+    group.ts = ts;
+    group.tr = tr;
+    group.tx = tx;
+    group.outs = outs;
+    group.ins = ins;
+    group
+}
+
+/// Fourth groups whose masked members or numbers are wrong.
+fn wrong_numbers() -> [Case; 7] {
+    let timeout = |value: u16| ConfigError::Timeout { vid: 4, value };
+    let slots = |value: u8| ConfigError::Slots { vid: 4, value };
+    let expiry = ConfigError::Expiry {
+        vid: 4,
+        value: 1001,
+    };
+    [
+        (3, masked(2), ConfigError::Masked { vid: 4, masked: 2 }, 9),
+        (3, masked(1), ConfigError::Masked { vid: 4, masked: 1 }, 9),
+        (3, numbered(0, 2, 0, 0, 32), timeout(0), 10),
+        (3, numbered(3, 1001, 0, 16, 32), timeout(1001), 10),
+        (3, numbered(3, 2, 1001, 16, 32), expiry, 16),
+        (3, numbered(3, 2, 0, 65, 32), slots(65), 17),
+        (3, numbered(3, 2, 0, 16, 0), slots(0), 17),
+    ]
+}
+
+#[test]
+fn names_the_first_broken_clause(rt: HostRuntime) {
+    for (place, group, error, code) in wrong_members() {
+        assert!(rt; is_refused_with(place, group, error, code), "{error:?}");
+    }
+    for (place, group, error, code) in wrong_numbers() {
+        assert!(rt; is_refused_with(place, group, error, code), "{error:?}");
     }
 }
 
@@ -194,42 +179,64 @@ fn refuses_more_than_forty_groups(rt: HostRuntime) {
     for vid in 1..42 {
         let _ = groups.try_push(Group::usual(vid, &[]));
     }
-    let count = groups.len();
-    let error = error_of(4, 1, groups.as_slice());
-    assert_eq!(rt;
-        error,
-        Some(ConfigError::GroupCount { count: 41 }),
-        "{count}"
+    assert!(rt;
+        is_refused(
+            4,
+            1,
+            groups.as_slice(),
+            ConfigError::GroupCount { count: 41 },
+            2
+        )
     );
     groups.truncate(40);
-    let error = error_of(4, 1, groups.as_slice());
-    assert_eq!(rt; error, Some(ConfigError::Size { vid: 1, size: 0 }));
+    assert!(rt;
+        is_refused(
+            4,
+            1,
+            groups.as_slice(),
+            ConfigError::Size { vid: 1, size: 0 },
+            5
+        )
+    );
+}
+
+/// The first group with other numbers, and a member masked.
+fn managers() -> Group {
+    let mut group = Group::usual(1, &[(0, 0), (1, 0), (2, 0), (3, 0)]);
+    group.masked = Set8 { bits: 4 };
+    group.ts = 1000;
+    group.tr = 1000;
+    group.tx = 1000;
+    group.outs = 64;
+    group.ins = 1;
+    group
+}
+
+/// The table of four elements with that first group, and its groups.
+fn changed_table() -> Option<(Table, [Group; 5])> {
+    let mut groups = four_elements();
+    groups[0] = managers();
+    let table = Table::new(4, 1, &groups).ok()?;
+    Some((table, groups))
+}
+
+/// Whether a group has so many live members, which are these of some places.
+fn has_live(group: &Group, count: u8, places: &[(u8, bool)]) -> bool {
+    group.live_count() == count
+        && places
+            .iter()
+            .all(|(place, live)| group.is_live(*place) == *live)
 }
 
 #[test]
-fn looks_up_groups_and_members(rt: HostRuntime) {
-    let mut groups = four_elements();
-    groups[0] = Group {
-        masked: Set8 { bits: 4 },
-        ts: 1000,
-        tr: 1000,
-        tx: 1000,
-        outs: 64,
-        ins: 1,
-        ..Group::usual(1, &[(0, 0), (1, 0), (2, 0), (3, 0)])
-    };
-    let table = Table::new(4, 1, &groups).expect(&rt, "a valid table");
-    assert_eq!(rt;
-        (table.n(), table.manager(), table.groups().len()),
-        (4, 1, 5)
-    );
-    assert_eq!(rt; table.groups(), groups.as_slice());
+fn looks_up_groups_and_members(rt: HostRuntime) -> Result<(), Fail> {
+    let (table, groups) = changed_table().ok_or("table")?;
+    assert!(rt; table.n() == 4 && table.manager() == 1);
+    assert!(rt; table.groups() == groups.as_slice());
     assert!(rt; table.group(0).is_none() && table.group(6).is_none());
-    let managers = table.group(1).expect(&rt, "the managing group");
-    assert_eq!(rt; managers.live_count(), 3);
-    for (index, live) in [(0, true), (2, false), (3, true), (4, false), (255, false)] {
-        assert_eq!(rt; managers.is_live(index), live, "{index}");
-    }
+    let places = [(0, true), (2, false), (3, true), (4, false), (255, false)];
+    let first = table.group(1).ok_or("group")?;
+    assert!(rt; has_live(first, 3, &places));
     for (ne, port, seat) in [
         (2, 0, Some((1, 2))),
         (3, 2, Some((3, 2))),
@@ -237,8 +244,15 @@ fn looks_up_groups_and_members(rt: HostRuntime) {
         (3, 3, None),
         (4, 0, None),
     ] {
-        assert_eq!(rt; table.group_of(Proc { ne, port }), seat, "{ne}.{port}");
+        assert!(rt; table.group_of(Proc { ne, port }) == seat, "{ne}.{port}");
     }
-    let other = Table::new(4, 1, &four_elements()).expect(&rt, "another valid table");
+    Ok(())
+}
+
+#[test]
+fn tells_tables_apart(rt: HostRuntime) -> Result<(), Fail> {
+    let (table, _) = changed_table().ok_or("table")?;
+    let other = Table::new(4, 1, &four_elements()).ok().ok_or("other")?;
     assert!(rt; table.same_table(&table.copy()) && !table.same_table(&other));
+    Ok(())
 }

@@ -8,6 +8,9 @@ use packet_format::{Descriptor, Packet};
 use std::test::Fail;
 use two_round::TwoRound;
 
+/// In place of the first byte of a row that is absent.
+const NONE: u8 = 0xee;
+
 /// The group with some members masked.
 fn with_masked(mut group: Group, bits: u8) -> Group {
     group.masked = Set8 { bits };
@@ -56,80 +59,126 @@ fn packet(first: u8) -> Option<Packet> {
     row(first).map(|bytes| Packet { bytes })
 }
 
+/// The rows that begin with these bytes, by sender; none where it is `NONE`.
+fn cells(firsts: [u8; 4]) -> Cells<4, 64> {
+    let mut cells = Cells::absent();
+    for sender in 0..4 {
+        let first = firsts[sender];
+        if first != NONE {
+            cells.set(sender, row(first));
+        }
+    }
+    cells
+}
+
+/// What a vote of copies of group 3 comes to; an update of the same exchange is taken from the results.
+fn voted(
+    table: &Table,
+    admitted: u8,
+    copies: [u8; 4],
+    results: [u8; 4],
+) -> (Option<Packet>, Option<Packet>, Option<Packet>)
+    requires { table.now.n ≡ 4 }
+{
+    let three = service(3, 1, Kind::Voted, admitted);
+    let copies = cells(copies);
+    let results = cells(results);
+    (
+        one_round::<4>(table, &three, &copies),
+        entry::<4>(table, &three, &copies, &results),
+        members_result::<4>(table, &three, &results),
+    )
+}
+
 #[test]
 fn copies_of_three_members_are_voted(rt: HostRuntime) -> Result<(), Fail> {
     let table = table().ok_or("table")?;
-    let three = service(3, 1, Kind::Voted, 0b1110);
-    let mut copies = Cells::absent();
-    copies.set(1, row(0xff));
-    copies.set(2, row(0));
-    copies.set(3, row(0xff));
-    assert_eq!(rt; one_round::<4>(&table, &three, &copies), packet(0xff));
-    // an update of the same exchange is taken from the results
-    let mut results = Cells::absent();
-    results.set(1, row(0x17));
-    results.set(2, row(0x17));
-    assert_eq!(rt; entry::<4>(&table, &three, &copies, &results), packet(0xff));
-    assert_eq!(rt; members_result::<4>(&table, &three, &results), packet(0x17));
-    copies.set(2, None);
-    copies.set(3, None);
-    assert_eq!(rt; one_round::<4>(&table, &three, &copies), None);
-    let none = service(3, 1, Kind::Voted, 0);
-    copies.set(2, row(0xff));
-    assert_eq!(rt; one_round::<4>(&table, &none, &copies), None);
+    let none = [NONE; 4];
+    let results = [NONE, 0x17, 0x17, NONE];
+    for (admitted, copies, results, wanted) in [
+        (
+            0b1110,
+            [NONE, 0xff, 0, 0xff],
+            results,
+            (packet(0xff), packet(0xff), packet(0x17)),
+        ),
+        (0b1110, [NONE, 0xff, NONE, NONE], none, (None, None, None)),
+        (0, [NONE, 0xff, 0xff, NONE], none, (None, None, None)),
+    ] {
+        assert!(rt;
+            voted(&table, admitted, copies, results) == wanted,
+            "{admitted}"
+        );
+    }
     Ok(())
 }
 
 /// What element 0 holds, where the elements 0 and 1 send a row and every other element relays it.
-fn heard(first: Option<[u8; 64]>, second: Option<[u8; 64]>) -> Option<TwoRound<4, 64>> {
-    let one = Ne::new(1, 4)?;
-    let two = Ne::new(2, 4)?;
-    let three = Ne::new(3, 4)?;
-    let mut x = TwoRound::new(Ne::new(0, 4)?);
+fn heard(first: Option<[u8; 64]>, second: Option<[u8; 64]>) -> TwoRound<4, 64> {
+    let mut x = TwoRound::new(Ne::at(0));
     x.first(first);
-    x.take_first(one, second);
     let mut cells = Cells::absent();
     cells.set(0, first);
     cells.set(1, second);
-    x.take_echo(one, cells);
-    x.take_echo(two, cells);
-    x.take_echo(three, cells);
-    Some(x)
+    for k in 1..4 {
+        let from = Ne::at(k);
+        if from != x.me() {
+            x.take_echo(from, cells);
+        }
+    }
+    let one = Ne::at(1);
+    if one != x.me() {
+        x.take_first(one, second);
+    }
+    x
+}
+
+/// What an exchange of group 2 in two rounds comes to.
+fn every(table: &Table, x: &TwoRound<4, 64>) -> (Option<Packet>, Option<Packet>, Option<Packet>)
+    requires { table.now.n ≡ 4 }
+{
+    let two = service(2, 3, Kind::Every, 0b0011);
+    let results = x.results();
+    (
+        every_member_result(table, &two, x),
+        entry::<4>(table, &two, &Cells::absent(), &results),
+        members_result::<4>(table, &two, &results),
+    )
 }
 
 #[test]
 fn results_of_two_members_are_voted(rt: HostRuntime) -> Result<(), Fail> {
     let table = table().ok_or("table")?;
-    let two = service(2, 3, Kind::Every, 0b0011);
-    let both = heard(row(0x55), row(0x55)).ok_or("elements")?;
-    assert_eq!(rt; every_member_result(&table, &two, &both), packet(0x55));
-    let copies = Cells::absent();
-    assert_eq!(rt;
-        entry::<4>(&table, &two, &copies, &both.results()),
-        packet(0x55)
-    );
-    let one = heard(row(0x55), None).ok_or("elements")?;
-    assert_eq!(rt; every_member_result(&table, &two, &one), None);
-    assert_eq!(rt; members_result::<4>(&table, &two, &one.results()), None);
+    for (second, wanted) in [(row(0x55), packet(0x55)), (None, None)] {
+        let x = heard(row(0x55), second);
+        assert!(rt; every(&table, &x) == (wanted, wanted, wanted));
+    }
     Ok(())
+}
+
+/// Whether a source contributes, and what its exchange comes to.
+fn of_source(
+    table: &Table,
+    admitted: u8,
+    x: &TwoRound<4, 64>,
+) -> (bool, Option<Packet>, Option<Packet>)
+    requires { table.now.n ≡ 4 }
+{
+    let one = Ne::at(1);
+    let four = service(4, 2, Kind::Source(one), admitted);
+    (
+        contributes(&four, one),
+        source_result(&four, x),
+        entry::<4>(table, &four, &Cells::absent(), &x.results()),
+    )
 }
 
 #[test]
 fn result_of_a_source_is_its_own(rt: HostRuntime) -> Result<(), Fail> {
     let table = table().ok_or("table")?;
-    let copies = Cells::absent();
-    let one = Ne::new(1, 4).ok_or("1")?;
-    let x = heard(row(0x0f), row(0x17)).ok_or("elements")?;
-    let admitted = service(4, 2, Kind::Source(one), 0b0010);
-    assert_eq!(rt; contributes(&admitted, one), true);
-    assert_eq!(rt; source_result(&admitted, &x), packet(0x17));
-    assert_eq!(rt;
-        entry::<4>(&table, &admitted, &copies, &x.results()),
-        packet(0x17)
-    );
-    let absent = service(4, 2, Kind::Source(one), 0b0001);
-    assert_eq!(rt; contributes(&absent, one), false);
-    assert_eq!(rt; source_result(&absent, &x), None);
-    assert_eq!(rt; entry::<4>(&table, &absent, &copies, &x.results()), None);
+    let x = heard(row(0x0f), row(0x17));
+    let wanted = (true, packet(0x17), packet(0x17));
+    assert!(rt; of_source(&table, 0b0010, &x) == wanted);
+    assert!(rt; of_source(&table, 0b0001, &x) == (false, None, None));
     Ok(())
 }

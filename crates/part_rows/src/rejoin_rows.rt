@@ -1,6 +1,7 @@
+use config_table::{Group, StateRow};
 use ftpp_base::{Proc, Set8};
 use packet_format::Descriptor;
-use rejoin::{STATE_BYTES, decode_state, encode_state};
+use rejoin::{AgreedState, STATE_BYTES, decode_state, encode_state};
 use std::test::Fail;
 
 /// The first bytes of four elements and five groups at cycle 0. An independent writer gave them, and those below.
@@ -67,71 +68,71 @@ fn filled(front: &[u8]) -> [u8; STATE_BYTES] {
     bytes
 }
 
-#[test]
-fn the_first_cycle_goes_both_ways(rt: HostRuntime) -> Result<(), Fail> {
-    let bytes = filled(&FIRST_CYCLE);
-    let Some(state) = decode_state(&bytes) else {
-        return Err("no state".into());
-    };
-    assert_eq!(rt;
-        (state.cycle, state.table.n(), state.table.manager()),
-        (0, 4, 1)
-    );
-    assert_eq!(rt; state.table.groups().len(), 5);
-    assert_eq!(rt; state.rows.len(), 5);
-    assert!(rt; state.rows.iter().all(|row| row.request.is_none()));
-    assert_eq!(rt; encode_state(&state), bytes);
-    Ok(())
+/// Whether a state has this cycle, and a table of so many elements and groups with manager 1.
+fn is_of(state: &AgreedState, cycle: u32, n: u8, groups: usize) -> bool {
+    state.cycle == cycle
+        && state.table.n() == n
+        && state.table.manager() == 1
+        && state.table.groups().len() == groups
+        && state.rows.len() == groups
 }
 
 #[test]
-fn the_last_cycle_goes_both_ways(rt: HostRuntime) -> Result<(), Fail> {
-    let bytes = filled(&LAST_CYCLE);
-    let Some(state) = decode_state(&bytes) else {
-        return Err("no state".into());
-    };
-    assert_eq!(rt;
-        (state.cycle, state.table.n(), state.table.manager()),
-        (100_000, 5, 1)
-    );
-    let Some(group) = state.table.group(7) else {
-        return Err("no group".into());
-    };
-    assert_eq!(rt;
-        group.members.as_slice(),
-        [
-            Proc { ne: 1, port: 7 },
-            Proc { ne: 4, port: 6 },
-            Proc { ne: 2, port: 5 }
-        ]
-        .as_slice()
-    );
-    assert_eq!(rt;
-        (group.masked, group.ts, group.tr, group.tx),
-        (Set8 { bits: 0 }, 2, 513, 0)
-    );
-    assert_eq!(rt; (group.outs, group.ins), (16, 32));
+fn the_first_cycle_goes_both_ways(rt: HostRuntime) -> Result<(), Fail> {
+    let bytes = filled(&FIRST_CYCLE);
+    let state = decode_state(&bytes).ok_or("no state")?;
+    assert!(rt; is_of(&state, 0, 4, 5));
+    assert!(rt; state.rows.iter().all(|row| row.request.is_none()));
+    assert!(rt; encode_state(&state) == bytes);
+    Ok(())
+}
+
+/// Whether a group of the last cycle has its members and numbers.
+fn is_seventh(group: &Group) -> bool {
+    let members = [
+        Proc { ne: 1, port: 7 },
+        Proc { ne: 4, port: 6 },
+        Proc { ne: 2, port: 5 },
+    ];
+    group.members.as_slice() == members.as_slice()
+        && group.masked == (Set8 { bits: 0 })
+        && (group.ts, group.tr, group.tx) == (2, 513, 0)
+        && (group.outs, group.ins) == (16, 32)
+}
+
+/// Whether a row of the last cycle has its request and lags.
+fn is_first(row: &StateRow) -> bool {
     let desc = Descriptor {
         dest: 7,
         class: 1,
         source: 0,
     };
-    let Some(row) = state.rows.first() else {
-        return Err("no row".into());
-    };
-    assert_eq!(rt; row.request, Some((desc, 99_999, 100_000)));
-    assert_eq!(rt; row.lags, [100_000, 0, 66_051, 0]);
-    assert_eq!(rt; encode_state(&state), bytes);
+    row.request == Some((desc, 99_999, 100_000)) && row.lags == [100_000, 0, 66_051, 0]
+}
+
+#[test]
+fn the_last_cycle_goes_both_ways(rt: HostRuntime) -> Result<(), Fail> {
+    let bytes = filled(&LAST_CYCLE);
+    let state = decode_state(&bytes).ok_or("no state")?;
+    assert!(rt; is_of(&state, 100_000, 5, 3));
+    assert!(rt; state.table.group(7).is_some_and(|group| is_seventh(group)));
+    assert!(rt; state.rows.first().is_some_and(|row| is_first(row)));
+    assert!(rt; encode_state(&state) == bytes);
     Ok(())
+}
+
+/// Whether the bytes of the last cycle are a state where one is another.
+fn is_state(place: usize, byte: u8) -> bool {
+    let mut bytes = filled(&LAST_CYCLE);
+    if let Some(changed) = bytes.get_mut(place) {
+        *changed = byte;
+    }
+    decode_state(&bytes).is_some()
 }
 
 #[test]
 fn other_bytes_are_no_state(rt: HostRuntime) {
     for (place, byte) in CHANGES.iter() {
-        let mut bytes = filled(&LAST_CYCLE);
-        if let Some(changed) = bytes.get_mut(*place) {
-            *changed = *byte;
-        }
-        assert!(rt; decode_state(&bytes).is_none(), "{byte} at {place}");
+        assert!(rt; !is_state(*place, *byte), "{byte} at {place}");
     }
 }

@@ -1,7 +1,7 @@
 use config_table::{ConfigError, Group, Table};
-use ftpp_base::Set8;
+use ftpp_base::{Proc, Set8};
 use packet_format::Packet;
-use std::test::*;
+use std::test::Fail;
 use table_update::*;
 
 /// A packet of these bytes and zeros behind them.
@@ -37,74 +37,92 @@ fn outcome(applied: &Applied) -> u8 {
     }
 }
 
-#[test]
-fn applies_or_refuses(rt: HostRuntime) -> Result<(), Fail> {
-    let ports_of_two = [(0, 1), (1, 1), (2, 1)];
-    // what the packets spell, one after another on the first table, what the last one gives, and the ports to clear
-    let cases: [(&[&[u8]], u8, &[(u8, u8)]); 24] = [
-        (&[&[1, 2, 0]], 0, &[]),
-        (&[&[1, 2, 0], &[1, 2, 0]], 0, &[]),
-        (&[&[1, 2, 3]], 255, &[]),
-        (&[&[1, 9, 0]], 255, &[]),
-        (&[&[1, 4, 0]], 9, &[]),
-        (&[&[1, 1, 3]], 0, &[]),
-        (&[&[1, 1, 3], &[1, 1, 0]], 12, &[]),
-        (&[&[1, 2, 0], &[2, 2, 0]], 0, &[(0, 1)]),
-        (&[&[2, 2, 1]], 0, &[(1, 1)]),
-        (&[&[2, 4, 1]], 255, &[]),
-        (&[&[3, 2, 3, 232, 0, 1]], 0, &[]),
-        (&[&[3, 2, 0, 0, 3, 233]], 10, &[]),
-        (&[&[3, 9, 0, 1, 0, 1]], 255, &[]),
-        (&[&[4, 2]], 0, &ports_of_two),
-        (&[&[4, 1]], 11, &[]),
-        (&[&[4, 2], &[4, 2]], 255, &[]),
-        (&[&[5, 6, 1, 0, 3, 0, 2, 2, 7]], 0, &[(2, 7)]),
-        (
-            &[&[4, 2], &[5, 2, 3, 0, 3, 0, 2, 0, 1, 1, 1, 2, 1]],
-            0,
-            &ports_of_two,
-        ),
-        (&[&[5, 2, 1, 0, 3, 0, 2, 2, 7]], 4, &[]),
-        (&[&[5, 6, 2, 0, 3, 0, 2, 1, 7, 2, 7]], 5, &[]),
-        (&[&[5, 6, 1, 0, 3, 0, 2, 4, 7]], 6, &[]),
-        (&[&[5, 6, 3, 0, 3, 0, 2, 1, 7, 2, 7, 1, 6]], 7, &[]),
-        (&[&[5, 6, 1, 0, 3, 0, 2, 3, 2]], 8, &[]),
-        (&[&[5, 0, 0]], 3, &[]),
-    ];
-    for (place, (packets, code, ports)) in cases.iter().enumerate() {
-        let mut table = four_elements()?;
-        let mut before = table.copy();
-        let mut last = Applied::Absent;
-        for bytes in *packets {
-            let update = read_update(&packet(bytes)).ok_or("an update")?;
-            before = table.copy();
-            last = apply(&mut table, &update);
-        }
-        assert_eq!(rt; outcome(&last), *code, "case {place}");
-        if let Applied::Done(cleared) = &last {
-            let found = cleared.iter().map(|p| (p.ne, p.port));
-            assert!(rt; found.eq(ports.iter().copied()), "ports of case {place}");
-        } else {
-            assert!(rt; table.same_table(&before), "table of case {place}");
-        }
+/// Updates, one after another on the first table, what the last one gives, and the ports to clear.
+type Case = (&'static [&'static [u8]], u8, &'static [(u8, u8)]);
+
+/// The ports of group 2.
+const OF_TWO: &[(u8, u8)] = &[(0, 1), (1, 1), (2, 1)];
+
+/// Updates of masks, timeouts and groups that are there.
+const CHANGES: [Case; 16] = [
+    (&[&[1, 2, 0]], 0, &[]),
+    (&[&[1, 2, 0], &[1, 2, 0]], 0, &[]),
+    (&[&[1, 2, 3]], 255, &[]),
+    (&[&[1, 9, 0]], 255, &[]),
+    (&[&[1, 4, 0]], 9, &[]),
+    (&[&[1, 1, 3]], 0, &[]),
+    (&[&[1, 1, 3], &[1, 1, 0]], 12, &[]),
+    (&[&[1, 2, 0], &[2, 2, 0]], 0, &[(0, 1)]),
+    (&[&[2, 2, 1]], 0, &[(1, 1)]),
+    (&[&[2, 4, 1]], 255, &[]),
+    (&[&[3, 2, 3, 232, 0, 1]], 0, &[]),
+    (&[&[3, 2, 0, 0, 3, 233]], 10, &[]),
+    (&[&[3, 9, 0, 1, 0, 1]], 255, &[]),
+    (&[&[4, 2]], 0, OF_TWO),
+    (&[&[4, 1]], 11, &[]),
+    (&[&[4, 2], &[4, 2]], 255, &[]),
+];
+
+/// Updates that form groups.
+const FORMS: [Case; 8] = [
+    (&[&[5, 6, 1, 0, 3, 0, 2, 2, 7]], 0, &[(2, 7)]),
+    (
+        &[&[4, 2], &[5, 2, 3, 0, 3, 0, 2, 0, 1, 1, 1, 2, 1]],
+        0,
+        OF_TWO,
+    ),
+    (&[&[5, 2, 1, 0, 3, 0, 2, 2, 7]], 4, &[]),
+    (&[&[5, 6, 2, 0, 3, 0, 2, 1, 7, 2, 7]], 5, &[]),
+    (&[&[5, 6, 1, 0, 3, 0, 2, 4, 7]], 6, &[]),
+    (&[&[5, 6, 3, 0, 3, 0, 2, 1, 7, 2, 7, 1, 6]], 7, &[]),
+    (&[&[5, 6, 1, 0, 3, 0, 2, 3, 2]], 8, &[]),
+    (&[&[5, 0, 0]], 3, &[]),
+];
+
+/// What comes of the update that a packet of these bytes is.
+fn updated(table: &mut Table, bytes: &[u8]) -> Option<Applied> {
+    let update = read_update(&packet(bytes))?;
+    Some(apply(table, &update))
+}
+
+/// Whether the ports to clear are these.
+fn clears(cleared: &[Proc], ports: &[(u8, u8)]) -> bool {
+    let mut alike = cleared.len() == ports.len();
+    for (proc, (ne, port)) in cleared.iter().zip(ports) {
+        alike = alike && proc.ne == *ne && proc.port == *port;
     }
-    Ok(())
+    alike
+}
+
+/// Whether the last of these updates on the first table gives this, and clears these ports or leaves the table as it was.
+fn comes_of(case: &Case) -> Option<bool> {
+    let (packets, code, ports) = *case;
+    let mut table = four_elements().ok()?;
+    let mut before = table.copy();
+    let mut last = Applied::Absent;
+    for bytes in packets {
+        before = table.copy();
+        last = updated(&mut table, bytes)?;
+    }
+    let is_right = match &last {
+        Applied::Done(cleared) => clears(cleared.as_slice(), ports),
+        _ => table.same_table(&before),
+    };
+    Some(outcome(&last) == code && is_right)
 }
 
 #[test]
-fn changes_what_is_named(rt: HostRuntime) -> Result<(), Fail> {
-    let mut table = four_elements()?;
-    for bytes in [
-        [1, 3, 2, 0, 0, 0, 0, 0, 0],
-        [1, 2, 1, 0, 0, 0, 0, 0, 0],
-        [2, 2, 1, 0, 0, 0, 0, 0, 0],
-        [3, 3, 3, 232, 0, 1, 0, 0, 0],
-        [4, 4, 0, 0, 0, 0, 0, 0, 0],
-        [5, 4, 1, 0, 7, 0, 8, 3, 5],
-    ] {
-        let update = read_update(&packet(&bytes)).ok_or("an update")?;
-        assert_eq!(rt; outcome(&apply(&mut table, &update)), 0);
+fn applies_or_refuses(rt: HostRuntime) {
+    for (place, case) in CHANGES.iter().enumerate() {
+        assert!(rt; comes_of(case) == Some(true), "change {place}");
     }
+    for (place, case) in FORMS.iter().enumerate() {
+        assert!(rt; comes_of(case) == Some(true), "form {place}");
+    }
+}
+
+/// The table of four elements with a masked member, other timeouts, and group 4 at another port.
+fn changed() -> Option<Table> {
     let mut third = Group::usual(3, &[(1, 2), (2, 2), (3, 2)]);
     third.masked = Set8 { bits: 4 };
     third.ts = 1000;
@@ -112,23 +130,45 @@ fn changes_what_is_named(rt: HostRuntime) -> Result<(), Fail> {
     let mut fourth = Group::usual(4, &[(3, 5)]);
     fourth.ts = 7;
     fourth.tr = 8;
-    let wanted = Table::new(
-        4,
-        1,
-        &[
-            Group::usual(1, &[(0, 0), (1, 0), (2, 0), (3, 0)]),
-            Group::usual(2, &[(0, 1), (1, 1), (2, 1)]),
-            third,
-            fourth,
-            Group::usual(5, &[(0, 3)]),
-        ],
-    )?;
-    assert!(rt; table.same_table(&wanted));
-    Ok(())
+    let groups = [
+        Group::usual(1, &[(0, 0), (1, 0), (2, 0), (3, 0)]),
+        Group::usual(2, &[(0, 1), (1, 1), (2, 1)]),
+        third,
+        fourth,
+        Group::usual(5, &[(0, 3)]),
+    ];
+    Table::new(4, 1, &groups).ok()
 }
 
 #[test]
-fn reads_no_other_packet(rt: HostRuntime) -> Result<(), Fail> {
+fn changes_what_is_named(rt: HostRuntime) -> Result<(), Fail> {
+    let updates: [&[u8]; 6] = [
+        &[1, 3, 2],
+        &[1, 2, 1],
+        &[2, 2, 1],
+        &[3, 3, 3, 232, 0, 1],
+        &[4, 4],
+        &[5, 4, 1, 0, 7, 0, 8, 3, 5],
+    ];
+    let mut table = four_elements()?;
+    for bytes in updates {
+        let applied = updated(&mut table, bytes).ok_or("an update")?;
+        assert!(rt; outcome(&applied) == 0);
+    }
+    assert!(rt; table.same_table(&changed().ok_or("table")?));
+    Ok(())
+}
+
+/// Whether packets of these bytes are read as updates; with another last byte they never are.
+fn reads(start: &[u8]) -> (bool, bool) {
+    let mut packet = packet(start);
+    let is_read = read_update(&packet).is_some();
+    packet.bytes[63] = 1;
+    (is_read, read_update(&packet).is_some())
+}
+
+#[test]
+fn reads_no_other_packet(rt: HostRuntime) {
     let cases: [(&[u8], bool); 15] = [
         (&[1, 0, 3], true),
         (&[1, 0, 4], false),
@@ -147,13 +187,6 @@ fn reads_no_other_packet(rt: HostRuntime) -> Result<(), Fail> {
         (&[6, 1], false),
     ];
     for (place, (start, is_update)) in cases.iter().enumerate() {
-        let mut packet = packet(start);
-        assert_eq!(rt; read_update(&packet).is_some(), *is_update, "case {place}");
-        packet.bytes[63] = 1;
-        assert!(rt;
-            read_update(&packet).is_none(),
-            "a last byte in case {place}"
-        );
+        assert!(rt; reads(start) == (*is_update, false), "case {place}");
     }
-    Ok(())
 }
