@@ -223,7 +223,7 @@ const BEFORE_WRITES: [usize; 4] = [0, 41, 181, 254];
 fn meets_each_fault(rt: HostRuntime) -> Result<(), Fail> {
     for call in 0..40usize {
         let number = call as u64 + 1;
-        let written = call / 13 * WRITTEN + BEFORE_READS[call % 13];
+        let written = (call / 13 * WRITTEN).saturating_add(BEFORE_READS[call % 13]);
         let input = zeros(250).list(rt.alloc())?;
         assert!(rt;
             ends(
@@ -235,7 +235,7 @@ fn meets_each_fault(rt: HostRuntime) -> Result<(), Fail> {
             )?,
             "read {number}"
         );
-        let written = call / 4 * WRITTEN + BEFORE_WRITES[call % 4];
+        let written = (call / 4 * WRITTEN).saturating_add(BEFORE_WRITES[call % 4]);
         let input = zeros(250).list(rt.alloc())?;
         assert!(rt;
             ends(
