@@ -1,16 +1,16 @@
 -- A line can spell each frame that an element sends, and each that edits make of such frames.
 use Rattle.std.proofs.Common.{ℕ, zero, suc, ◌<◌, List, [], ◌∷◌, map, arith}
-use Rattle.std.specs.Prelude.{slice_index, slice_set, bit_xor, filter, Some, None, not, ◌&&◌, ◌==◌}
+use Rattle.std.specs.Prelude.{slice_index, slice_set, bit_xor, filter, Some, None}
 use Rattle.std.specs.List.{AllByRecursion, flat_map, fold}
 use Rattle.std.proofs.lemmas.List.{length-set}
 use Rattle.std.proofs.lemmas.Nat.{xor_of_8}
-use Rattle.ftpp_base.specs.Lists.{cell_at, below, is_this}
+use Rattle.ftpp_base.specs.Lists.{below}
 use Rattle.ftpp_base.specs.declared.element.Round.{Round}
 use Rattle.ftpp_base.specs.declared.element.Round.TheVariants.{A1, A2, B1, B2}
 use Rattle.ftpp_base.specs.declared.element.Slot.{Slot}
 use Rattle.ftpp_base.proofs.Among.{all-get_or, all-append, all-replicate, all-filter, either}
 use Rattle.bit_vote.specs.Vote.{Cell, IsCell}
-use Rattle.bit_vote.specs.Agreed.{FirstRound, copy_at}
+use Rattle.bit_vote.specs.Agreed.{copy_at}
 use Rattle.frame_format.specs.Frames.{kind_byte, width_in, cell_bytes, frame_bytes}
 use Rattle.frame_format.proofs.Decoded.{length-frame}
 use Rattle.fault_script.specs.declared.Edit.{Edit}
@@ -22,18 +22,12 @@ use Rattle.element_core.specs.Cycle.{State, Input, Shown, step}
 use Rattle.element_core.specs.Sent.{is_relayed, relayed_packet, cells_sent, frame_sent}
 use Rattle.element_core.specs.Alone.{IsSound, IsInput}
 use Rattle.element_core.proofs.AloneLaws.{size_of}
-use Rattle.run_frames.proofs.SentFrames.{HasCells, has_cells, frame_fits}
+use Rattle.run_frames.proofs.Existing.{IsByte, all_bytes}
+use Rattle.run_frames.proofs.SentFrames.{HasCells, has_cells, copy_cell, frame_fits}
 use Rattle.run_frames.proofs.NodeCycle.{longest}
 use Rattle.audited_runs.specs.ReadBack.{IsSpelled}
 
 -- ---- bytes
-
-abbrev IsByte : ℕ → Type 0
-IsByte b = b < 256
-
-all_bytes : (bytes : List ℕ) → AreBytes bytes → AllByRecursion IsByte bytes
-all_bytes [] h = tt
-all_bytes (b ∷ bytes) h = (h 0, all_bytes bytes (λ k. h (suc k)))
 
 each_byte : (bytes : List ℕ) → AllByRecursion IsByte bytes → AreBytes bytes
 each_byte bytes a k = all-get_or IsByte bytes k 0 a (omega arith)
@@ -61,11 +55,6 @@ frame_small slot sender cells l are =
 pub all_made : {A : Type 0} (P : A → Type 0) (f : ℕ → A) (ks : List ℕ) → ((k : ℕ) → P (f k)) → AllByRecursion P (map f ks)
 all_made P f [] h = tt
 all_made P f (k ∷ ks) h = (h k, all_made P f ks h)
-
--- a copy is one of two cells
-copy_cell : (wide : ℕ) (round : FirstRound) (me s : ℕ) → IsCell wide (cell_at round.heard me) → IsCell wide (cell_at round.own s) → IsCell wide (copy_at round me s)
-unfolding copy_at
-copy_cell wide round me s heard own = either (IsCell wide) (is_this round.faulty s && not (me == s)) (cell_at round.heard me) (cell_at round.own s) heard own
 
 sent_cells : (shown : Shown) (round : Round) (me : ℕ) → HasCells shown → AllByRecursion (IsCell (width_in round)) (cells_sent shown round me)
 sent_cells shown A1 me is = (is.pattern me, tt)

@@ -43,11 +43,11 @@ packet_fits n cycle sender cell is = record { spelled = refl; count = refl; wide
 
 -- ---- its bytes
 
-abbrev IsByte : ℕ → Type 0
+abbrev pub IsByte : ℕ → Type 0
 IsByte b = b < 256
 
 -- a list of numbers that are bytes at each place
-all_bytes : (bytes : List ℕ) → ((k : ℕ) → slice_index bytes k < 256) → AllByRecursion IsByte bytes
+pub all_bytes : (bytes : List ℕ) → ((k : ℕ) → slice_index bytes k < 256) → AllByRecursion IsByte bytes
 all_bytes [] h = tt
 all_bytes (b ∷ bytes) h = (h 0, all_bytes bytes (λ k. h (suc k)))
 

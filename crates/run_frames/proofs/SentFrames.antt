@@ -45,7 +45,7 @@ wide_cell wide None is = tt
 wide_cell wide (Some row) is = is.long
 
 -- a copy is one, too
-copy_cell : (wide : ℕ) (round : FirstRound) (me s : ℕ) → IsCell wide (cell_at round.heard me) → IsCell wide (cell_at round.own s) → IsCell wide (copy_at round me s)
+pub copy_cell : (wide : ℕ) (round : FirstRound) (me s : ℕ) → IsCell wide (cell_at round.heard me) → IsCell wide (cell_at round.own s) → IsCell wide (copy_at round me s)
 unfolding copy_at
 copy_cell wide round me s heard own = either (IsCell wide) (is_this round.faulty s && not (me == s)) (cell_at round.heard me) (cell_at round.own s) heard own
 
