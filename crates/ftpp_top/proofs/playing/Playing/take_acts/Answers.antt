@@ -6,8 +6,8 @@ use Rattle.ftpp_top.proofs.Begun.{few_at}
 use Rattle.ftpp_top.proofs.Again.{row_fits, row_among, taken_at}
 use Rattle.ftpp_top.proofs.playing.Playing.take_acts.Goals as goal
 
-pub due_acts-acts-requires-clause-few : goal.due_acts-acts-requires-clause-few
-due_acts-acts-requires-clause-few g c =
+pub due_acts-requires-clause-few : goal.due_acts-requires-clause-few
+due_acts-requires-clause-few g c =
     let s = c.args.self.now in
     let plan = plan_of s.script.now in
     let k : ℕ = length s.cluster.journal in
@@ -18,11 +18,11 @@ due_acts-acts-requires-clause-few g c =
 pub returns-clause-fits : goal.returns-clause-fits
 returns-clause-fits g c =
     let s = c.args.self.now in
-    row_fits g.row.N (plan_of s.script.now) s.cluster s.acts.now c.due_acts-acts.result.1.now c.due_acts-acts.result.0.items s.rejoins.now c.requires
-    (taken_at (length s.cluster.journal) c.len.result s.acts.now c.due_acts-acts.result.0.items c.due_acts-acts.result.1.now (c.len.ensures.length ∙ ap length c.journal.ensures) c.due_acts-acts.ensures.due c.due_acts-acts.ensures.ordered c.due_acts-acts.ensures.later c.due_acts-acts.ensures.count)
+    row_fits g.row.N (plan_of s.script.now) s.cluster s.acts.now c.due_acts.result.now c.due_acts.new.row.items s.rejoins.now c.requires
+    (taken_at (length s.cluster.journal) c.len.result s.acts.now c.due_acts.new.row.items c.due_acts.result.now (c.len.ensures.length ∙ ap length c.journal.ensures) c.due_acts.ensures.due c.due_acts.ensures.ordered c.due_acts.ensures.later c.due_acts.ensures.count)
 
 pub returns-clause-among : goal.returns-clause-among
 returns-clause-among g c =
     let s = c.args.self.now in
-    row_among g.row.N (plan_of s.script.now) s.cluster s.acts.now c.due_acts-acts.result.1.now c.due_acts-acts.result.0.items s.rejoins.now c.requires
-    (taken_at (length s.cluster.journal) c.len.result s.acts.now c.due_acts-acts.result.0.items c.due_acts-acts.result.1.now (c.len.ensures.length ∙ ap length c.journal.ensures) c.due_acts-acts.ensures.due c.due_acts-acts.ensures.ordered c.due_acts-acts.ensures.later c.due_acts-acts.ensures.count)
+    row_among g.row.N (plan_of s.script.now) s.cluster s.acts.now c.due_acts.result.now c.due_acts.new.row.items s.rejoins.now c.requires
+    (taken_at (length s.cluster.journal) c.len.result s.acts.now c.due_acts.new.row.items c.due_acts.result.now (c.len.ensures.length ∙ ap length c.journal.ensures) c.due_acts.ensures.due c.due_acts.ensures.ordered c.due_acts.ensures.later c.due_acts.ensures.count)
