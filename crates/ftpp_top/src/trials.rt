@@ -76,7 +76,7 @@ pub fn played_totals<const N: usize, F: Fabric>(
     requires elements { table.now.n ≡ N }
     requires playable { IsPlayable N (plan_of script.now) }
     requires edits { IsTrue (never_fall 0 script.now.edits.items) }
-    ensures totals { IsTrue (F.honest fabric.old) → IfOk result (λ t. t ≡ totals_played table.now (plan_of script.now)) }
+    ensures { IfOk result (λ t. IsTrue (F.honest fabric.old) → t ≡ totals_played table.now (plan_of script.now)) }
 {
     let mut playing = Playing::<N>::new(alloc, table, script)?;
     Ok(sum_up(&mut playing, fabric))
