@@ -6,11 +6,7 @@ ghost use Rattle.ftpp_top.specs.Due.{acts_in, IsOrdered};
 use packet_format::{Act, HostActs};
 
 /// Writes the acts of a cycle, which come first, and gives those that follow.
-pub(crate) fn due_acts<'a>(
-    acts: &'a [(u32, Act)],
-    c: u32,
-    row: &mut HostActs,
-) -> &'a [(u32, Act)]
+pub(crate) fn due_acts<'a>(acts: &'a [(u32, Act)], c: u32, row: &mut HostActs) -> &'a [(u32, Act)]
     requires ordered { IsOrdered c acts.now }
     requires few { length (acts_in acts.now c) ≤ 80 }
     ensures due { row.new.items ≡ acts_in acts.now c }
