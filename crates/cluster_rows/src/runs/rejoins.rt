@@ -36,7 +36,7 @@ fn two_faced(alloc: Global) -> Option<Cluster<4>> {
 
 /// The elements of the first table, the faulty elements of a cluster and of the first cycle of its journal, what is left of cycles and
 /// acts, the cycles of the journal, and whether an element rejoined before the first and its acts are those of a case.
-type Noted = (u8, Option<Ne>, Option<Ne>, u32, usize, u32, bool, bool);
+type Noted = (u8, Option<u8>, Option<u8>, u32, usize, u32, bool, bool);
 
 fn noted(cluster: &Cluster<4>, posts: &[Posts]) -> Option<Noted> {
     let journal = cluster.journal();
@@ -45,8 +45,8 @@ fn noted(cluster: &Cluster<4>, posts: &[Posts]) -> Option<Noted> {
     }
     Some((
         cluster.first_table().n(),
-        cluster.faulty(),
-        journal.faulty(0),
+        cluster.faulty().map(|ne| ne.byte()),
+        journal.faulty(0).map(|ne| ne.byte()),
         cluster.remaining(),
         cluster.acts_left(),
         journal.len(),
@@ -71,8 +71,7 @@ fn noted_and_carried(alloc: Global) -> Option<(Noted, [(u8, u8); 3], (usize, Opt
 #[test]
 fn the_journal_keeps_what_came_from_outside(rt: HostRuntime) -> Result<(), Fail> {
     let (noted, told, seen) = noted_and_carried(rt.alloc()).ok_or("cycle")?;
-    let three = Some(Ne::at(3));
-    assert_eq!(rt; noted, (4, three, three, 1, 0, 1, false, true));
+    assert_eq!(rt; noted, (4, Some(3), Some(3), 1, 0, 1, false, true));
     assert_eq!(rt; told, [(2, 0x0f), (2, 0x33), (2, 0x55)]);
     assert_eq!(rt; seen, (71, Some(0x33)));
     Ok(())
