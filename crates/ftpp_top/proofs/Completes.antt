@@ -10,7 +10,7 @@ use Rattle.command_steps.specs.declared.status.Status.{Status}
 use Rattle.command_steps.specs.declared.status.Status.TheVariants.{Done, Usage, Script, Config, Read, Write, Memory, TooLong, Stream}
 use Rattle.command_steps.specs.Ends.{Output}
 use Rattle.command_steps.specs.Known.{IsHalt}
-use Rattle.ftpp_top.specs.Audited.{Audited, judged}
+use Rattle.ftpp_top.specs.Audited.{judged}
 use Rattle.ftpp_top.specs.Completeness.{HasFailed, IsDone, DoneIfNoneFails, AuditedIfNoneFails, ServedIfNoneFails}
 
 pub done_if_none_fails : DoneIfNoneFails

@@ -1,5 +1,5 @@
 -- From bytes to an outcome: how each command ends, by what the shelf and the source tell.
-use Rattle.std.specs.Prelude.{ℕ, Bool, List, [], ◌∷◌, slice_index, Option, Some, None, if◌then◌else◌, true, false}
+use Rattle.std.specs.Prelude.{ℕ, Bool, List, [], ◌∷◌, slice_index, Option, Some, None, true, false}
 use Rattle.std.specs.List.{flat_map, range_with_len}
 use Rattle.ftpp_outside.specs.Files.{NamedBytes}
 use Rattle.config_table.specs.Table.{TableValue}

@@ -19,5 +19,5 @@ mod verdict_line;
 pub use built_in_tables::{built_in_4, built_in_5};
 pub use call::top;
 pub use command_steps::Status;
-pub use trials::SoakTrial;
+pub use trials::{SoakTrial, played_totals};
 pub use workload::make_script;

@@ -21,7 +21,7 @@ use cluster::Cluster;
 use config_table::Table;
 use element_core::{CycleReport, Rejoined};
 use fault_script::Player;
-use ftpp_base::{Gate, Ne, NoMemory};
+use ftpp_base::{Gate, Ne, NoMemory, Row};
 use link_fabric::Fabric;
 use packet_format::{Act, HostActs};
 use script_text::Script;
@@ -36,13 +36,15 @@ pub struct Playing<'a, const N: usize> {
     pub player: Player<'a>,
     pub acts: &'a [(u32, Act)],
     pub rejoins: &'a [(u32, Option<Ne>)],
+    /// The acts of the last cycle.
+    pub host: HostActs,
 }
 
-/// A cycle as it was played: the element that was asked to rejoin just before it, with the answer, the acts and the report.
+/// A cycle as it was played: the element that was asked to rejoin just before it, with the answer, and the report. Its acts
+/// stay with the cluster, since they are large.
 #[derive(Drop)]
 pub struct PlayedCycle<const N: usize> {
     pub rejoin: Option<(Ne, Rejoined)>,
-    pub acts: HostActs,
     pub report: CycleReport<N>,
 }
 
@@ -139,6 +141,7 @@ impl<'a, const N: usize> Playing<'a, N> {
             player: Player::new(script.edits.as_slice()),
             acts: script.acts.as_slice(),
             rejoins: script.rejoins.as_slice(),
+            host: Row::new(),
         })
     }
 
@@ -187,21 +190,20 @@ impl<'a, const N: usize> Playing<'a, N> {
         Some((ne, self.cluster.rejoin(same_element(&entry.1))))
     }
 
-    /// The acts of the coming cycle.
-    fn take_acts(&mut self) -> HostActs
+    /// Takes the acts of the coming cycle.
+    fn take_acts(&mut self)
         requires { IsBegun N (plan_of self.old.script.now) self.old.cluster self.old.acts.now self.old.rejoins.now }
         ensures script { self.new.script ≡ self.old.script }
         ensures player { self.new.player ≡ self.old.player }
         ensures cluster { self.new.cluster ≡ self.old.cluster }
         ensures rejoins { self.new.rejoins ≡ self.old.rejoins }
-        ensures taken { IsTaken (length self.old.cluster.journal) self.old.acts.now result.items self.new.acts.now }
+        ensures taken { IsTaken (length self.old.cluster.journal) self.old.acts.now self.new.host.items self.new.acts.now }
         ensures more { 1 ≤ self.new.cluster.remaining }
-        ensures fits { length result.items ≤ self.new.cluster.acts_left }
-        ensures among { AllByRecursion (IsActAmong N) result.items }
+        ensures fits { length self.new.host.items ≤ self.new.cluster.acts_left }
+        ensures among { AllByRecursion (IsActAmong N) self.new.host.items }
     {
-        let (acts, later) = due_acts(self.acts, self.cluster.journal().len());
-        self.acts = later;
-        acts
+        let cycle = self.cluster.journal().len();
+        self.acts = due_acts(self.acts, cycle, &mut self.host);
     }
 
     /// The next cycle, by one thread.
@@ -213,19 +215,15 @@ impl<'a, const N: usize> Playing<'a, N> {
         ensures first { self.new.cluster.first ≡ self.old.cluster.first }
         ensures cycle { length self.new.cluster.journal ≡ length self.old.cluster.journal + 1 }
         ensures ready { IsReady N (plan_of self.new.script.now) self.new.cluster self.new.acts.now self.new.rejoins.now }
-        ensures shown { IsShown result.acts.items result.report }
-        ensures run { IsTrue (F.honest fabric.old) → (table : TableValue) → IsCycleOf table (plan_of self.old.script.now) self.old.cluster (told_by self.old.player) result.rejoin result.acts.items self.new.cluster result.report (told_by self.new.player) }
+        ensures shown { IsShown self.new.host.items result.report }
+        ensures run { IsTrue (F.honest fabric.old) → (table : TableValue) → IsCycleOf table (plan_of self.old.script.now) self.old.cluster (told_by self.old.player) result.rejoin self.new.host.items self.new.cluster result.report (told_by self.new.player) }
         ensures honest { IsTrue (F.honest fabric.old) → IsTrue (F.honest fabric.new) }
         ensures told { TellsMore (F.told fabric.old) (cycle_frames N (length self.old.cluster.journal) (frame_at self.new.cluster.delivered)) (F.told fabric.new) }
     {
         let rejoin = self.rejoin();
-        let acts = self.take_acts();
-        let report = step(&mut self.cluster, &acts, fabric, &mut self.player);
-        PlayedCycle {
-            rejoin,
-            acts,
-            report,
-        }
+        self.take_acts();
+        let report = step(&mut self.cluster, &self.host, fabric, &mut self.player);
+        PlayedCycle { rejoin, report }
     }
 
     /// The next cycle, with the steps of the elements in threads of their own, where they can be had.
@@ -242,18 +240,21 @@ impl<'a, const N: usize> Playing<'a, N> {
         ensures first { self.new.cluster.first ≡ self.old.cluster.first }
         ensures cycle { length self.new.cluster.journal ≡ length self.old.cluster.journal + 1 }
         ensures ready { IsReady N (plan_of self.new.script.now) self.new.cluster self.new.acts.now self.new.rejoins.now }
-        ensures shown { IsShown result.acts.items result.report }
-        ensures run { IsTrue (F.honest fabric.old) → (table : TableValue) → IsCycleOf table (plan_of self.old.script.now) self.old.cluster (told_by self.old.player) result.rejoin result.acts.items self.new.cluster result.report (told_by self.new.player) }
+        ensures shown { IsShown self.new.host.items result.report }
+        ensures run { IsTrue (F.honest fabric.old) → (table : TableValue) → IsCycleOf table (plan_of self.old.script.now) self.old.cluster (told_by self.old.player) result.rejoin self.new.host.items self.new.cluster result.report (told_by self.new.player) }
         ensures honest { IsTrue (F.honest fabric.old) → IsTrue (F.honest fabric.new) }
         ensures told { TellsMore (F.told fabric.old) (cycle_frames N (length self.old.cluster.journal) (frame_at self.new.cluster.delivered)) (F.told fabric.new) }
     {
         let rejoin = self.rejoin();
-        let acts = self.take_acts();
-        let report = step_split(rt, &mut self.cluster, &acts, fabric, &mut self.player, gate);
-        PlayedCycle {
-            rejoin,
-            acts,
-            report,
-        }
+        self.take_acts();
+        let report = step_split(
+            rt,
+            &mut self.cluster,
+            &self.host,
+            fabric,
+            &mut self.player,
+            gate,
+        );
+        PlayedCycle { rejoin, report }
     }
 }

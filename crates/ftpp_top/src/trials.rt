@@ -1,11 +1,13 @@
 //! Soaks: the workload of a number, played for its totals.
 
-ghost use Rattle.std.specs.Prelude.{◌≡◌, suc, ◌+◌, ◌≤◌, ◌⊎◌, List, Option, length, IsTrue};
+ghost use Rattle.std.specs.Prelude.{◌≡◌, suc, ◌+◌, ◌≤◌, ◌⊎◌, List, Option, length, IfOk, IsTrue};
 ghost use Rattle.link_fabric.specs.declared.fabrics.Carried.{Carried};
 ghost use Rattle.report_text.specs.Sums.{IsBounded};
 ghost use Rattle.ftpp_top.specs.Loops.{IsSumming};
 ghost use Rattle.ftpp_top.specs.Commands.{in_order, of_order};
+ghost use Rattle.fault_script.specs.Edited.{never_fall};
 ghost use Rattle.script_text.specs.Reading.{plan_of};
+ghost use Rattle.script_text.specs.Playable.{IsPlayable};
 ghost use Rattle.report_text.specs.PlayedRun.{totals_played};
 ghost use Rattle.ftpp_top.specs.FollowsScript.{StandsAt};
 ghost use Rattle.ftpp_top.specs.Playing.{IsReady, told_by};
@@ -14,9 +16,11 @@ ghost use Rattle.command_steps.specs.Loading.{Run};
 use crate::playing::Playing;
 use built_in_tables::built_in_5;
 use campaign::{Outcome, TOTALS, Trial};
+use config_table::Table;
 use ftpp_base::NoMemory;
 use link_fabric::Fabric;
 use report_text::Totals;
+use script_text::Script;
 use std::alloc::Global;
 use std::marker::Sync;
 use workload::make_script;
@@ -59,6 +63,23 @@ fn sum_up<const N: usize, F: Fabric>(playing: &mut Playing<'_, N>, fabric: &mut 
         sum_cycle(playing, &mut totals, fabric);
     }
     totals
+}
+
+/// Plays a script over a fabric, by one thread, for its totals. Want of memory is the only refusal.
+pub fn played_totals<const N: usize, F: Fabric>(
+    alloc: Global,
+    table: &Table,
+    script: &Script,
+    fabric: &mut F,
+) -> Result<Totals, NoMemory>
+    requires size { (N ≡ 4) ⊎ (N ≡ 5) }
+    requires elements { table.now.n ≡ N }
+    requires playable { IsPlayable N (plan_of script.now) }
+    requires edits { IsTrue (never_fall 0 script.now.edits.items) }
+    ensures { IfOk result (λ t. IsTrue (F.honest fabric.old) → t ≡ totals_played table.now (plan_of script.now)) }
+{
+    let mut playing = Playing::<N>::new(alloc, table, script)?;
+    Ok(sum_up(&mut playing, fabric))
 }
 
 /// Totals in the order of an outcome.
@@ -111,9 +132,8 @@ impl<F: Fabric + Copy + Sync> Trial for SoakTrial<F> {
     fn run(&self, alloc: Global, start: u64) -> Result<Outcome, NoMemory> {
         let script = make_script(alloc, start, self.cycles)?;
         let table = built_in_5();
-        let mut playing = Playing::<5>::new(alloc, &table, &script)?;
         let mut fabric = self.fabric;
-        let totals = sum_up(&mut playing, &mut fabric);
+        let totals = played_totals::<5, F>(alloc, &table, &script, &mut fabric)?;
         Ok(Outcome {
             start,
             totals: in_order(&totals),

@@ -51,7 +51,7 @@ fn report_cycle<const N: usize, F: Fabric, K: Sink>(
     let played = playing.next(fabric);
     totals.add(&played.report);
     text.clear();
-    cycle_text(played.rejoin, &played.acts, &played.report, text);
+    cycle_text(played.rejoin, &playing.host, &played.report, text);
     write_all(out, text.bytes())
 }
 

@@ -1,4 +1,4 @@
-use Rattle.std.proofs.Common.{◌≡◌, ℕ, List, sym, ◌∙◌, ap, subst, arith}
+use Rattle.std.proofs.Common.{◌≡◌, ℕ, List, sym, ◌∙◌, subst}
 use Rattle.ftpp_outside.specs.Told.{Adds}
 use Rattle.command_steps.specs.Ends.{AddsPrefix}
 use Rattle.cluster.specs.ClusterValue.{element_at}

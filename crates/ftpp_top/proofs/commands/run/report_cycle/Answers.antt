@@ -15,22 +15,22 @@ returns-clause-ok g c honest r first before e i =
     let s = c.args.playing.now in
     let p = c.next-played.result in
     let t = c.next-played.new.self in
-    let same : c.bytes.result.now ≡ cycle_lines p.rejoin p.acts.items (report_told p.report) = c.bytes.ensures ∙ (c.cycle_text.ensures.text ∙ ap (λ (xs : List ℕ). xs ++ cycle_lines p.rejoin p.acts.items (report_told p.report)) c.clear.ensures) in
-    let cycle : IsCycleOf r.table r.plan s.cluster (told_by s.player) p.rejoin p.acts.items t.cluster p.report (told_by t.player) =
-    subst (λ (plan : Plan). IsCycleOf r.table plan s.cluster (told_by s.player) p.rejoin p.acts.items t.cluster p.report (told_by t.player)) (sym e) (c.next-played.ensures.run honest r.table) in
+    let same : c.bytes.result.now ≡ cycle_lines p.rejoin t.host.items (report_told p.report) = c.bytes.ensures ∙ (c.cycle_text.ensures.text ∙ ap (λ (xs : List ℕ). xs ++ cycle_lines p.rejoin t.host.items (report_told p.report)) c.clear.ensures) in
+    let cycle : IsCycleOf r.table r.plan s.cluster (told_by s.player) p.rejoin t.host.items t.cluster p.report (told_by t.player) =
+    subst (λ (plan : Plan). IsCycleOf r.table plan s.cluster (told_by s.player) p.rejoin t.host.items t.cluster p.report (told_by t.player)) (sym e) (c.next-played.ensures.run honest r.table) in
     let size : t.cluster.first.n ≡ g.row.N = ap (λ x. x.n) c.next-played.ensures.first ∙ c.requires.ready.elements in
-    on_ok c.write_all.result _ _ (λ w. reporting_more {n = g.row.N} r (length s.cluster.journal) s.cluster t.cluster (told_by s.player) (told_by t.player) c.args.totals.now c.add.new.self first (g.K.Sink.written c.args.out.now) (g.K.Sink.written c.write_all.new.sink) before (g.F.Fabric.told c.args.fabric.now) (g.F.Fabric.told c.next-played.new.fabric) p.rejoin p.acts.items p.report i refl cycle size c.next-played.ensures.told c.add.ensures.sum (subst (λ (xs : List ℕ). Adds (g.K.Sink.written c.args.out.now) xs (g.K.Sink.written c.write_all.new.sink)) same w)) c.write_all.ensures.ok
+    on_ok c.write_all.result _ _ (λ w. reporting_more {n = g.row.N} r (length s.cluster.journal) s.cluster t.cluster (told_by s.player) (told_by t.player) c.args.totals.now c.add.new.self first (g.K.Sink.written c.args.out.now) (g.K.Sink.written c.write_all.new.sink) before (g.F.Fabric.told c.args.fabric.now) (g.F.Fabric.told c.next-played.new.fabric) p.rejoin t.host.items p.report i refl cycle size c.next-played.ensures.told c.add.ensures.sum (subst (λ (xs : List ℕ). Adds (g.K.Sink.written c.args.out.now) xs (g.K.Sink.written c.write_all.new.sink)) same w)) c.write_all.ensures.ok
 
 pub returns-clause-err : goal.returns-clause-err
 returns-clause-err g c honest r first before e i =
     let s = c.args.playing.now in
     let p = c.next-played.result in
     let t = c.next-played.new.self in
-    let same : c.bytes.result.now ≡ cycle_lines p.rejoin p.acts.items (report_told p.report) = c.bytes.ensures ∙ (c.cycle_text.ensures.text ∙ ap (λ (xs : List ℕ). xs ++ cycle_lines p.rejoin p.acts.items (report_told p.report)) c.clear.ensures) in
-    let cycle : IsCycleOf r.table r.plan s.cluster (told_by s.player) p.rejoin p.acts.items t.cluster p.report (told_by t.player) =
-    subst (λ (plan : Plan). IsCycleOf r.table plan s.cluster (told_by s.player) p.rejoin p.acts.items t.cluster p.report (told_by t.player)) (sym e) (c.next-played.ensures.run honest r.table) in
+    let same : c.bytes.result.now ≡ cycle_lines p.rejoin t.host.items (report_told p.report) = c.bytes.ensures ∙ (c.cycle_text.ensures.text ∙ ap (λ (xs : List ℕ). xs ++ cycle_lines p.rejoin t.host.items (report_told p.report)) c.clear.ensures) in
+    let cycle : IsCycleOf r.table r.plan s.cluster (told_by s.player) p.rejoin t.host.items t.cluster p.report (told_by t.player) =
+    subst (λ (plan : Plan). IsCycleOf r.table plan s.cluster (told_by s.player) p.rejoin t.host.items t.cluster p.report (told_by t.player)) (sym e) (c.next-played.ensures.run honest r.table) in
     let size : t.cluster.first.n ≡ g.row.N = ap (λ x. x.n) c.next-played.ensures.first ∙ c.requires.ready.elements in
     let whole = c.requires.ready.cycles in
     let more = c.requires.more in
     let later : length s.cluster.journal < r.plan.cycles = omega (arith, whole, more, ap (λ x. x.cycles) e) in
-    on_err c.write_all.result _ _ (λ w. reporting_cut {n = g.row.N} r (length s.cluster.journal) s.cluster t.cluster (told_by s.player) (told_by t.player) c.args.totals.now c.add.new.self first (g.K.Sink.written c.args.out.now) (g.K.Sink.written c.write_all.new.sink) before (g.F.Fabric.told c.args.fabric.now) (g.F.Fabric.told c.next-played.new.fabric) p.rejoin p.acts.items p.report i refl cycle size c.next-played.ensures.told later (subst (λ (xs : List ℕ). AddsPrefix (g.K.Sink.written c.args.out.now) xs (g.K.Sink.written c.write_all.new.sink)) same w)) c.write_all.ensures.prefix
+    on_err c.write_all.result _ _ (λ w. reporting_cut {n = g.row.N} r (length s.cluster.journal) s.cluster t.cluster (told_by s.player) (told_by t.player) c.args.totals.now c.add.new.self first (g.K.Sink.written c.args.out.now) (g.K.Sink.written c.write_all.new.sink) before (g.F.Fabric.told c.args.fabric.now) (g.F.Fabric.told c.next-played.new.fabric) p.rejoin t.host.items p.report i refl cycle size c.next-played.ensures.told later (subst (λ (xs : List ℕ). AddsPrefix (g.K.Sink.written c.args.out.now) xs (g.K.Sink.written c.write_all.new.sink)) same w)) c.write_all.ensures.prefix

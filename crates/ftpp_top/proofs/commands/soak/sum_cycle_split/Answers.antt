@@ -12,8 +12,8 @@ returns-clause-sum g c honest r before e i =
     let s = c.args.playing.now in
     let p = c.next_split-played.result in
     let t = c.next_split-played.new.self in
-    let cycle : IsCycleOf r.table r.plan s.cluster (told_by s.player) p.rejoin p.acts.items t.cluster p.report (told_by t.player) =
-    subst (λ (plan : Plan). IsCycleOf r.table plan s.cluster (told_by s.player) p.rejoin p.acts.items t.cluster p.report (told_by t.player)) (sym e) (c.next_split-played.ensures.run honest r.table) in
+    let cycle : IsCycleOf r.table r.plan s.cluster (told_by s.player) p.rejoin t.host.items t.cluster p.report (told_by t.player) =
+    subst (λ (plan : Plan). IsCycleOf r.table plan s.cluster (told_by s.player) p.rejoin t.host.items t.cluster p.report (told_by t.player)) (sym e) (c.next_split-played.ensures.run honest r.table) in
     let size : t.cluster.first.n ≡ g.row.N = ap (λ x. x.n) c.next_split-played.ensures.first ∙ c.requires.ready.elements in
-    summing_more {n = g.row.N} r (length s.cluster.journal) s.cluster t.cluster (told_by s.player) (told_by t.player) c.args.totals.now c.add.new.self before (g.F.Fabric.told c.args.fabric.now) (g.F.Fabric.told c.next_split-played.new.fabric) p.rejoin p.acts.items p.report
+    summing_more {n = g.row.N} r (length s.cluster.journal) s.cluster t.cluster (told_by s.player) (told_by t.player) c.args.totals.now c.add.new.self before (g.F.Fabric.told c.args.fabric.now) (g.F.Fabric.told c.next_split-played.new.fabric) p.rejoin t.host.items p.report
     i refl cycle size c.next_split-played.ensures.told c.add.ensures.sum
