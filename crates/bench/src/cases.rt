@@ -4,6 +4,7 @@ ghost use Rattle.std.specs.Prelude.{◌≤◌};
 
 use crate::scripts::{exchange, table_of_most};
 use config_table::Table;
+use ftpp_base::MOST_CYCLES;
 use ftpp_top::{built_in_4, built_in_5, make_script, played_totals};
 use link_fabric::Mesh;
 use report_text::Totals;
@@ -86,10 +87,10 @@ fn soak(alloc: Global, cycles: u32) -> Option<Totals>
 
 /// Plays a case of 1 to 100,000 cycles. None where memory is wanted, or where its script is too long: the exchange has some
 /// 30,000 cycles at most, and 7,000 with lies.
-pub fn played(alloc: Global, case: Case, cycles: u32) -> Option<Totals>
-    requires some { 1 ≤ cycles }
-    requires few { cycles ≤ 100000 }
-{
+pub fn played(alloc: Global, case: Case, cycles: u32) -> Option<Totals> {
+    if cycles < 1 || cycles > MOST_CYCLES {
+        return None;
+    }
     match case {
         Case::Soak => soak(alloc, cycles),
         Case::Five => steady(alloc, &built_in_5(), cycles, false),

@@ -11,6 +11,7 @@ mod cases;
 mod scripts;
 
 use cases::{Case, START, played};
+use ftpp_base::MOST_CYCLES;
 use report_text::Totals;
 use std::process::ExitCode;
 use std::rt::Env;
@@ -28,7 +29,7 @@ fn asked<R: Env + AllocGlobal>(rt: &R) -> io::Result<Option<(u32, Case)>> {
         None => Some(Case::Soak),
     };
     match (cycles.as_str().parse::<u32>(), case) {
-        (Ok(cycles), Some(case)) if (1..=100_000).contains(&cycles) => Ok(Some((cycles, case))),
+        (Ok(cycles), Some(case)) if (1..=MOST_CYCLES).contains(&cycles) => Ok(Some((cycles, case))),
         _ => Ok(None),
     }
 }
