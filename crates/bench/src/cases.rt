@@ -28,7 +28,7 @@ pub enum Case {
     Four,
     /// The same on a table of as many groups as there can be.
     Most,
-    /// That of `Five`, and element 4 lies to each receiver otherwise.
+    /// The exchange of `Five`, where element 4 lies to each receiver in another way.
     Lies,
 }
 
@@ -85,8 +85,8 @@ fn soak(alloc: Global, cycles: u32) -> Option<Totals>
     played_totals::<5, Mesh>(alloc, &built_in_5(), &script, &mut Mesh).ok()
 }
 
-/// Plays a case of 1 to 100,000 cycles. None where memory is wanted, or where its script is too long: the exchange has some
-/// 30,000 cycles at most, and 7,000 with lies.
+/// Plays a case of 1 to 100,000 cycles. None where memory runs out, or where its script is too long to be read: the exchange
+/// has some 30,000 cycles at most, and 7,000 with lies.
 pub fn played(alloc: Global, case: Case, cycles: u32) -> Option<Totals> {
     if cycles < 1 || cycles > MOST_CYCLES {
         return None;

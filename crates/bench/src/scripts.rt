@@ -61,7 +61,7 @@ fn post(
     Ok(())
 }
 
-/// The liar changes its frames of a cycle, others for each receiver.
+/// The liar changes its frames of a cycle, for each receiver in another way.
 fn lie(alloc: Global, text: &mut Vec<u8>, cycle: u32) -> Result<(), AllocError> {
     for to in 0..LIAR {
         for place in PLACES {
