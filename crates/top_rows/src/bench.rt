@@ -121,3 +121,15 @@ pub(crate) fn call<R: Threads + Sync + AllocGlobal>(
 ) -> Result<Answer, Fail> {
     call_over(rt, words, around, &mut Mesh)
 }
+
+/// Whether a text has these parts, each behind the one before it.
+pub(crate) fn has_parts(text: &str, parts: &[&str]) -> bool {
+    let mut rest = text;
+    for part in parts {
+        let Some((_, behind)) = rest.split_once(*part) else {
+            return false;
+        };
+        rest = behind;
+    }
+    true
+}

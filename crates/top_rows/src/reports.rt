@@ -1,6 +1,6 @@
 //! Runs, and what they write.
 
-use crate::bench::{call, call_over, source};
+use crate::bench::{call, call_over, has_parts, source};
 use crate::runs::RUNS;
 use crate::texts::{EMPTY_REPORT, IDLE_REPORT, VOTED, VOTED_REPORT};
 use ftpp_top::Status;
@@ -21,14 +21,12 @@ fn writes_reports(rt: HostRuntime) -> Result<(), Fail> {
     for row in &RUNS {
         let answer = call(&rt, "run", &source(row.script.as_bytes()))?;
         assert_eq!(rt; answer.status, Status::Done, "{}", row.name);
-        let mut rest = answer.text.as_str();
-        for part in row.parts {
-            let Some((_, behind)) = rest.split_once(part) else {
-                assert_eq!(rt; rest, *part, "{}", row.name);
-                break;
-            };
-            rest = behind;
-        }
+        assert!(rt;
+            has_parts(answer.text.as_str(), row.parts),
+            "{}: {}",
+            row.name,
+            answer.text
+        );
     }
     Ok(())
 }

@@ -4,6 +4,13 @@
 pub(crate) const FOUR: &str =
     "# four elements\nversion = 1\nelements = 4\nmanager = 1\n\n[[group]]\nvid = 1\nmembers = [\"0.0\", \"1.0\", \"2.0\", \"3.0\"]\nts = 3\ntr = 2\n\n[[group]]\nvid = 2\nmembers = [\"0.1\", \"1.1\", \"2.1\"]\nts = 3\ntr = 2\n\n[[group]]\nvid = 3\nmembers = [\"1.2\", \"2.2\", \"3.2\"]\nts = 3\ntr = 2\n\n[[group]]\nvid = 4\nmembers = [\"3.1\"]\nts = 3\ntr = 2\n\n[[group]]\nvid = 5\nmembers = [\"0.3\"]\nts = 3\ntr = 2\nmasked = []\n";
 
+/// The same, where group 5 has one output slot and group 3 two input slots: what stands before further lines of group 3, and
+/// what stands behind them.
+pub(crate) const SMALL_BUFFERS: [&str; 2] = [
+    "version = 2\nelements = 4\nmanager = 1\n\n[[group]]\nvid = 1\nmembers = [\"0.0\", \"1.0\", \"2.0\", \"3.0\"]\nts = 3\ntr = 2\n\n[[group]]\nvid = 2\nmembers = [\"0.1\", \"1.1\", \"2.1\"]\nts = 3\ntr = 2\n\n[[group]]\nvid = 3\nmembers = [\"1.2\", \"2.2\", \"3.2\"]\nts = 3\ntr = 2\nins = 2\n",
+    "\n[[group]]\nvid = 4\nmembers = [\"3.1\"]\nts = 3\ntr = 2\n\n[[group]]\nvid = 5\nmembers = [\"0.3\"]\nts = 3\ntr = 2\nouts = 1\n",
+];
+
 /// Voted posts, and its whole report.
 pub(crate) const VOTED: &str =
     "cycles 1\nat 0 post 0.1 3 1 0 41\nat 0 post 1.1 3 1 0 41\nat 0 post 2.1 3 1 0 41\n";
