@@ -23,7 +23,7 @@ pub(crate) const IDLE: Cycle = Cycle {
 };
 
 /// Bits that are turned in one frame of each cycle.
-#[derive(Clone, Copy)]
+#[derive(Debug, Clone, Copy, PartialEq, Eq)]
 pub(crate) struct Flip {
     /// The place of the round, 0 to 3.
     pub(crate) round: usize,

@@ -121,23 +121,41 @@ fn is_found(alloc: Global, flip: Flip) -> Result<bool, Fail> {
     )
 }
 
-#[test]
-fn a_turned_bit_is_found(rt: HostRuntime) -> Result<(), Fail> {
-    for round in 0..4 {
-        for place in 0..16u8 {
-            let (from, to) = (place / 4, place % 4);
-            for at in [0, 4, 5, 33, 38] {
-                let flip = Flip {
-                    round,
-                    from,
-                    to,
-                    at,
-                    bits: 0x10,
-                };
-                let is_right = from == to || is_found(rt.alloc(), flip)?;
-                assert!(rt; is_right, "round {round} from {from} to {to} at {at}");
+/// Bytes of the shortest frame: those of its head, and some of its cell.
+const PLACES: [usize; 11] = [0, 1, 2, 3, 4, 5, 6, 7, 20, 33, 38];
+
+/// The first bit that is not found where it is turned, of 132 in the frames of a round: one in each of these bytes of each link.
+fn unfound(alloc: Global, round: usize) -> Result<Option<Flip>, Fail> {
+    for link in 0..16u8 {
+        let (from, to) = (link / 4, link % 4);
+        for at in PLACES {
+            let flip = Flip {
+                round,
+                from,
+                to,
+                at,
+                bits: 0x10,
+            };
+            if from != to && !is_found(alloc, flip)? {
+                return Ok(Some(flip));
             }
         }
+    }
+    Ok(None)
+}
+
+#[test]
+fn a_bit_turned_in_a_first_round_is_found(rt: HostRuntime) -> Result<(), Fail> {
+    for round in [0, 2] {
+        assert_eq!(rt; unfound(rt.alloc(), round)?, None);
+    }
+    Ok(())
+}
+
+#[test]
+fn a_bit_turned_in_a_second_round_is_found(rt: HostRuntime) -> Result<(), Fail> {
+    for round in [1, 3] {
+        assert_eq!(rt; unfound(rt.alloc(), round)?, None);
     }
     Ok(())
 }
