@@ -1,7 +1,5 @@
-ghost use Rattle.std.specs.Prelude.{◌≡◌, IfSome};
-
 use crate::traces::{Cycle, Flip, IDLE, trace};
-use config_table::{Group, Table};
+use built_in_tables::built_in_4;
 use ftpp_base::{Ne, Round};
 use script_text::ScriptError;
 use std::alloc::Global;
@@ -19,21 +17,6 @@ enum Said {
     Refused(u32, u8),
     /// It was not asked, or gave another answer.
     Nothing,
-}
-
-/// The built-in table of four elements.
-fn four_elements() -> Option<Table>
-    ensures { IfSome result (λ t. t.n ≡ 4) }
-{
-    let groups = [
-        Group::usual(1, &[(0, 0), (1, 0), (2, 0), (3, 0)]),
-        Group::usual(2, &[(0, 1), (1, 1), (2, 1)]),
-        Group::usual(3, &[(1, 2), (2, 2), (3, 2)]),
-        Group::usual(4, &[(3, 1)]),
-        Group::usual(5, &[(0, 3)]),
-    ];
-    let table = Table::new(4, 1, &groups).ok()?;
-    if table.n() == 4 { Some(table) } else { None }
 }
 
 fn place_of(round: Round) -> usize {
@@ -68,10 +51,7 @@ fn audited(bytes: &[u8], named: u8) -> Said {
     if bytes.len() > 8_388_608 {
         return Said::Nothing;
     }
-    let Some(table) = four_elements() else {
-        return Said::Nothing;
-    };
-    match audit_text::<4>(bytes, &table, Ne::new(named, 4)) {
+    match audit_text::<4>(bytes, &built_in_4(), Ne::new(named, 4)) {
         Ok(verdict) => of_verdict(&verdict),
         Err(error) => of_refusal(&error),
     }

@@ -1,10 +1,8 @@
 //! Four elements that exchange frames, of which one may be faulty.
 
-ghost use Rattle.std.specs.Prelude.{◌≡◌, IfSome};
-
 use super::cases::{Case, Change, Edit, Posts, ROUNDS};
 use bit_vote::Cells;
-use config_table::{Group, Table};
+use built_in_tables::built_in_4;
 use element_core::{Due, Element, Rejoined};
 use frame_format::{FrameBuf, copy_frame};
 use ftpp_base::{Ne, Round, Set8};
@@ -20,21 +18,6 @@ pub(super) struct Seat {
     pub(super) link: LinkEnd<4>,
 }
 
-/// A quad group that may update the table, two triplex and two simplex groups.
-fn table() -> Option<Table>
-    ensures { IfSome result (λ t. t.n ≡ 4) }
-{
-    let groups = [
-        Group::usual(1, &[(0, 0), (1, 0), (2, 0), (3, 0)]),
-        Group::usual(2, &[(0, 1), (1, 1), (2, 1)]),
-        Group::usual(3, &[(1, 2), (2, 2), (3, 2)]),
-        Group::usual(4, &[(3, 1)]),
-        Group::usual(5, &[(0, 3)]),
-    ];
-    let table = Table::new(4, 1, &groups).ok()?;
-    if table.n() == 4 { Some(table) } else { None }
-}
-
 /// A packet with these first bytes.
 pub(super) fn packet(first: &[u8; 3]) -> Packet {
     let mut bytes = [0; 64];
@@ -45,11 +28,10 @@ pub(super) fn packet(first: &[u8; 3]) -> Packet {
 /// An element before its first cycle.
 pub(super) fn new_seat(alloc: Global, number: u8) -> Option<Seat> {
     let me = Ne::new(number, 4)?;
-    let table = table()?;
     if me.index() >= 4 {
         return None;
     }
-    let element = Element::new(alloc, me, &table).ok()?;
+    let element = Element::new(alloc, me, &built_in_4()).ok()?;
     Some(Seat {
         element,
         link: LinkEnd::new(me),
