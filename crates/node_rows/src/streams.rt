@@ -223,30 +223,18 @@ const BEFORE_WRITES: [usize; 4] = [0, 41, 181, 254];
 fn meets_each_fault(rt: HostRuntime) -> Result<(), Fail> {
     for call in 0..40usize {
         let number = call as u64 + 1;
-        let written = (call / 13 * WRITTEN).saturating_add(BEFORE_READS[call % 13]);
-        let input = zeros(250).list(rt.alloc())?;
-        assert!(rt;
-            ends(
-                rt.alloc(),
-                input,
-                10,
-                &failing(number, 0),
-                (NodeEnd::Read, written)
-            )?,
-            "read {number}"
-        );
-        let written = (call / 4 * WRITTEN).saturating_add(BEFORE_WRITES[call % 4]);
-        let input = zeros(250).list(rt.alloc())?;
-        assert!(rt;
-            ends(
-                rt.alloc(),
-                input,
-                10,
-                &failing(0, number),
-                (NodeEnd::Write, written)
-            )?,
-            "write {number}"
-        );
+        let before_read = (call / 13 * WRITTEN).saturating_add(BEFORE_READS[call % 13]);
+        let before_write = (call / 4 * WRITTEN).saturating_add(BEFORE_WRITES[call % 4]);
+        for (around, end, written) in [
+            (failing(number, 0), NodeEnd::Read, before_read),
+            (failing(0, number), NodeEnd::Write, before_write),
+        ] {
+            let input = zeros(250).list(rt.alloc())?;
+            assert!(rt;
+                ends(rt.alloc(), input, 10, &around, (end, written))?,
+                "{end:?} at call {number}"
+            );
+        }
     }
     Ok(())
 }
