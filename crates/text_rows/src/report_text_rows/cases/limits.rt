@@ -4,6 +4,39 @@ use super::{Asked, Case, Decided, NONE, OF_ONE, Run, TO_THREE, Way};
 use processor_buffers::Handed;
 use syndrome_log::SyndromeKind;
 
+/// All members of group 2 post to group 3, and the element of one receiver, which is faulty, stays full.
+const STAYS_FULL: &[Case] = &[
+    Case {
+        times: 2,
+        faulty: Some(3),
+        acts: &[
+            (1, 0, 1, Asked::Posted),
+            (1, 1, 1, Asked::Posted),
+            (1, 2, 1, Asked::Posted),
+        ],
+        waiting: &[(0b0111, 1, TO_THREE)],
+        full: &[(0b1000, 2)],
+        text: "cycle 0\npattern 0 2 3:3:1:0 2 2 2 2 2 2\npattern 1 2 3:3:1:0 2 2 2 2 2 2\npattern 2 2 3:3:1:0 2 2 2 2 2 2\npattern 3 2 2 0 2 2 2 2 2\nidle\n",
+        ..NONE
+    },
+    Case {
+        cycle: 2,
+        faulty: Some(3),
+        waiting: &[(0b0111, 1, TO_THREE)],
+        full: &[(0b1000, 2)],
+        decided: Decided::Serves(2, TO_THREE, Way::Voted, 2, 0b0111),
+        results: [Some([0x41, 0, 0]); 4],
+        handed: &[(0b1110, 2, Handed::Stored)],
+        notes: &[(0b0111, SyndromeKind::O, 3, 3)],
+        text: "cycle 2\npattern 0 2 3:3:1:0 2 2 2 2 2 2\npattern 1 2 3:3:1:0 2 2 2 2 2 2\npattern 2 2 3:3:1:0 2 2 2 2 2 2\npattern 3 2 2 0 2 2 2 2 2\nserve 2 to 3 class 1 kind voted waited 2 admitted 0 1 2\nresult 0 41\nresult 1 41\nresult 2 41\ndeliver 1.2 stored\ndeliver 2.2 stored\nsyndrome 0 O 3 3\nsyndrome 1 O 3 3\nsyndrome 2 O 3 3\n",
+        ..NONE
+    },
+];
+
+/// The last line of that run.
+const STAYS_FULL_END: &str =
+    "end cycles 3 served 1 discarded 0 idle 2 stored 2 overrun 0 syndromes 3\n";
+
 pub(in super::super) const LIMITS: &[Run] = &[
     Run {
         name: "a full output",
@@ -46,65 +79,13 @@ pub(in super::super) const LIMITS: &[Run] = &[
     },
     Run {
         name: "a receiver that stays full",
-        cycles: &[
-            Case {
-                times: 2,
-                faulty: Some(3),
-                acts: &[
-                    (1, 0, 1, Asked::Posted),
-                    (1, 1, 1, Asked::Posted),
-                    (1, 2, 1, Asked::Posted),
-                ],
-                waiting: &[(0b0111, 1, TO_THREE)],
-                full: &[(0b1000, 2)],
-                text: "cycle 0\npattern 0 2 3:3:1:0 2 2 2 2 2 2\npattern 1 2 3:3:1:0 2 2 2 2 2 2\npattern 2 2 3:3:1:0 2 2 2 2 2 2\npattern 3 2 2 0 2 2 2 2 2\nidle\n",
-                ..NONE
-            },
-            Case {
-                cycle: 2,
-                faulty: Some(3),
-                waiting: &[(0b0111, 1, TO_THREE)],
-                full: &[(0b1000, 2)],
-                decided: Decided::Serves(2, TO_THREE, Way::Voted, 2, 0b0111),
-                results: [Some([0x41, 0, 0]); 4],
-                handed: &[(0b1110, 2, Handed::Stored)],
-                notes: &[(0b0111, SyndromeKind::O, 3, 3)],
-                text: "cycle 2\npattern 0 2 3:3:1:0 2 2 2 2 2 2\npattern 1 2 3:3:1:0 2 2 2 2 2 2\npattern 2 2 3:3:1:0 2 2 2 2 2 2\npattern 3 2 2 0 2 2 2 2 2\nserve 2 to 3 class 1 kind voted waited 2 admitted 0 1 2\nresult 0 41\nresult 1 41\nresult 2 41\ndeliver 1.2 stored\ndeliver 2.2 stored\nsyndrome 0 O 3 3\nsyndrome 1 O 3 3\nsyndrome 2 O 3 3\n",
-                ..NONE
-            },
-        ],
-        end: "end cycles 3 served 1 discarded 0 idle 2 stored 2 overrun 0 syndromes 3\n",
+        cycles: STAYS_FULL,
+        end: STAYS_FULL_END,
     },
     Run {
         name: "a receiver that stays full, with an expiry",
-        cycles: &[
-            Case {
-                times: 2,
-                faulty: Some(3),
-                acts: &[
-                    (1, 0, 1, Asked::Posted),
-                    (1, 1, 1, Asked::Posted),
-                    (1, 2, 1, Asked::Posted),
-                ],
-                waiting: &[(0b0111, 1, TO_THREE)],
-                full: &[(0b1000, 2)],
-                text: "cycle 0\npattern 0 2 3:3:1:0 2 2 2 2 2 2\npattern 1 2 3:3:1:0 2 2 2 2 2 2\npattern 2 2 3:3:1:0 2 2 2 2 2 2\npattern 3 2 2 0 2 2 2 2 2\nidle\n",
-                ..NONE
-            },
-            Case {
-                cycle: 2,
-                faulty: Some(3),
-                waiting: &[(0b0111, 1, TO_THREE)],
-                full: &[(0b1000, 2)],
-                decided: Decided::Serves(2, TO_THREE, Way::Voted, 2, 0b0111),
-                results: [Some([0x41, 0, 0]); 4],
-                handed: &[(0b1110, 2, Handed::Stored)],
-                notes: &[(0b0111, SyndromeKind::O, 3, 3)],
-                text: "cycle 2\npattern 0 2 3:3:1:0 2 2 2 2 2 2\npattern 1 2 3:3:1:0 2 2 2 2 2 2\npattern 2 2 3:3:1:0 2 2 2 2 2 2\npattern 3 2 2 0 2 2 2 2 2\nserve 2 to 3 class 1 kind voted waited 2 admitted 0 1 2\nresult 0 41\nresult 1 41\nresult 2 41\ndeliver 1.2 stored\ndeliver 2.2 stored\nsyndrome 0 O 3 3\nsyndrome 1 O 3 3\nsyndrome 2 O 3 3\n",
-                ..NONE
-            },
-        ],
-        end: "end cycles 3 served 1 discarded 0 idle 2 stored 2 overrun 0 syndromes 3\n",
+        cycles: STAYS_FULL,
+        end: STAYS_FULL_END,
     },
     Run {
         name: "an overrun at last",
