@@ -1,7 +1,7 @@
 use crate::traces::{Cycle, Flip, IDLE, trace};
 use built_in_tables::built_in_4;
 use ftpp_base::{Ne, Round};
-use script_text::ScriptError;
+use script_text::{MOST_SCRIPT_BYTES, ScriptError};
 use std::alloc::Global;
 use std::test::Fail;
 use trace_audit::{Verdict, audit_text};
@@ -48,7 +48,7 @@ fn of_refusal(error: &ScriptError) -> Said {
 
 /// What the audit says of a text for the element of that number, or for none from 4 on.
 fn audited(bytes: &[u8], named: u8) -> Said {
-    if bytes.len() > 8_388_608 {
+    if bytes.len() > MOST_SCRIPT_BYTES {
         return Said::Nothing;
     }
     match audit_text::<4>(bytes, &built_in_4(), Ne::new(named, 4)) {

@@ -8,14 +8,11 @@ use ftpp_base::MOST_CYCLES;
 use ftpp_top::{built_in_4, built_in_5, make_script, played_totals};
 use link_fabric::Mesh;
 use report_text::Totals;
-use script_text::read_script;
+use script_text::{MOST_SCRIPT_BYTES, read_script};
 use std::alloc::Global;
 
 /// The number of the workload.
 pub const START: u64 = 7;
-
-/// The longest script that is read.
-const MOST_BYTES: usize = 8_388_608;
 
 /// What is played.
 #[derive(Clone, Copy, PartialEq, Eq)]
@@ -59,7 +56,7 @@ impl Case {
 
 /// The totals of a script.
 fn totals_of(alloc: Global, table: &Table, text: &[u8]) -> Option<Totals> {
-    if text.len() > MOST_BYTES {
+    if text.len() > MOST_SCRIPT_BYTES {
         return None;
     }
     let script = read_script(alloc, text, table).ok()?;
@@ -79,7 +76,7 @@ fn steady(alloc: Global, table: &Table, cycles: u32, lies: bool) -> Option<Total
 /// The totals of the workload of the soak.
 fn soak(alloc: Global, cycles: u32) -> Option<Totals>
     requires some { 1 ≤ cycles }
-    requires few { cycles ≤ 100000 }
+    requires few { cycles ≤ MOST_CYCLES }
 {
     let script = make_script(alloc, START, cycles).ok()?;
     played_totals::<5, Mesh>(alloc, &built_in_5(), &script, &mut Mesh).ok()

@@ -2,6 +2,7 @@
 use Rattle.std.specs.Prelude.{◌≡◌, ◌≢◌, ℕ, ◌<◌, List, length, map, slice_index_or}
 use Rattle.ftpp_base.specs.declared.element.Round.{Round}
 use Rattle.ftpp_base.specs.declared.element.Round.TheVariants.{A1}
+use Rattle.ftpp_base.specs.declared.limits.TheConstants.{MOST_CYCLES}
 use Rattle.link_fabric.specs.Rows.{rows_of}
 use Rattle.element_core.specs.declared.Due.{Due}
 use Rattle.element_core.specs.declared.Due.TheVariants.{Emit, Absorb}
@@ -36,7 +37,7 @@ module _ {N : ℕ} where
   pub record IsReady (due : Due) (s : Station N) : Type 0 where
     pub due_is : s.element.due ≡ due
     pub owner : s.link.owner ≡ s.element.kept.me
-    pub cycle : s.element.kept.cycle < 100000
+    pub cycle : s.element.kept.cycle < MOST_CYCLES
 
   -- the same of all elements
   abbrev pub AllReady : Due → List (Station N) → Type 0

@@ -27,7 +27,7 @@ use fault_script::Adversary;
 use frame_format::FrameBuf;
 use ftpp_base::{Gate, Ne, NoMemory, Round, Row, Slot};
 use link_fabric::Fabric;
-use packet_format::{Act, ActAnswer};
+use packet_format::{Act, ActAnswer, MOST_ACTS};
 use std::alloc::Global;
 use std::thread::Threads;
 
@@ -107,10 +107,10 @@ impl<const N: usize> Network<N> {
     }
 
     /// The acts of the processors, in order, and the answers to them.
-    pub(crate) fn act(&mut self, acts: &[Act], cycle: u32) -> Row<ActAnswer, 80>
+    pub(crate) fn act(&mut self, acts: &[Act], cycle: u32) -> Row<ActAnswer, MOST_ACTS>
         requires size { (N ≡ 4) ⊎ (N ≡ 5) }
         requires count { length self.old.stations.items ≡ N }
-        requires few { length acts.now ≤ 80 }
+        requires few { length acts.now ≤ MOST_ACTS }
         requires rest { AllRest cycle self.old.stations.items }
         requires among { AllByRecursion (IsActAmong N) acts.now }
         ensures elements { elements_of self.new.stations.items ≡ all_acted (elements_of self.old.stations.items) acts.now }

@@ -8,7 +8,7 @@ ghost use Rattle.element_core.specs.ElementValue.{after_own_act, fresh};
 use config_table::Table;
 use element_core::{Due, Element};
 use frame_format::FrameBuf;
-use ftpp_base::{Ne, NoMemory, Proc, Round};
+use ftpp_base::{MOST_CYCLES, Ne, NoMemory, Proc, Round};
 use link_fabric::LinkEnd;
 use packet_format::{Act, ActAnswer, Delivered, Descriptor, Packet};
 use processor_buffers::PostFull;
@@ -41,7 +41,7 @@ impl<const N: usize> Station<N> {
     pub(crate) fn step(&mut self, due: Due)
         requires due { self.old.element.due ≡ due }
         requires owner { self.old.link.owner ≡ self.old.element.kept.me }
-        requires cycle { self.old.element.kept.cycle < 100000 }
+        requires cycle { self.old.element.kept.cycle < MOST_CYCLES }
         ensures { Steps due self.old self.new }
     {
         match due {

@@ -8,15 +8,17 @@ use Rattle.config_text.specs.Reading.{config_of}
 use Rattle.script_text.specs.declared.Script.{Script}
 use Rattle.script_text.specs.Reading.{Plan, Refusal, plan_of, script_of}
 use Rattle.command_steps.specs.Ends.{Outcome, too_long, refused_script, refused_config, not_read}
+use Rattle.script_text.specs.declared.TheConstants.{MOST_SCRIPT_BYTES}
 use Rattle.built_in_tables.specs.Tables.{c4}
+use Rattle.command_steps.specs.declared.files.TheConstants.{MOST_FILE_BYTES}
 use Rattle.command_steps.specs.Known.{Known, Untold, Ending, Given, ◌>>=◌}
 
 -- the most bytes of a configuration file, and of a script
 abbrev pub file_limit : ℕ
-file_limit = 1048576
+file_limit = MOST_FILE_BYTES
 
 abbrev pub script_limit : ℕ
-script_limit = 8388608
+script_limit = MOST_SCRIPT_BYTES
 
 -- ---- a file
 

@@ -13,11 +13,8 @@ use crate::refusals::{refuse_length, refuse_script};
 use crate::status::Status;
 use config_table::Table;
 use ftpp_outside::{InputError, Sink, Source, read_all};
-use script_text::{Script, ScriptError, read_script};
+use script_text::{MOST_SCRIPT_BYTES, Script, ScriptError, read_script};
 use std::alloc::Global;
-
-/// The most bytes of a script, and of a trace.
-const MOST_SCRIPT_BYTES: usize = 8_388_608;
 
 /// The script of these bytes, or the refusal that is written.
 fn parse_script<K: Sink>(

@@ -1,5 +1,7 @@
 -- The table of commands: what the words of a command line ask for, if they are lawful.
 use Rattle.std.specs.Prelude.{ℕ, ◌+◌, ◌-◌, ◌*◌, ◌^◌, Bool, ◌&&◌, ◌==◌, nat_le, List, [], ◌∷◌, length, take, drop, codes, Option, Some, None, option_map, if◌then◌else◌}
+use Rattle.ftpp_base.specs.declared.limits.TheConstants.{MOST_CYCLES}
+use Rattle.command_words.specs.declared.reading.TheConstants.{MOST_MADE, MOST_SWEPT, MOST_STARTS}
 use Rattle.std.specs.Str.{bytes_eq}
 use Rattle.command_words.specs.Numbers.{number_within, element_of}
 
@@ -57,7 +59,7 @@ abbrev pub start_of : List ℕ → Option ℕ
 start_of word = number_within 0 last_start word
 
 abbrev pub cycles_of : List ℕ → Option ℕ
-cycles_of word = number_within 1 100000 word
+cycles_of word = number_within 1 MOST_CYCLES word
 
 -- ---- the commands, by the words behind their name
 
@@ -70,12 +72,12 @@ soak_of _ = None
 
 -- the last start is in range, too, and there are at most 1,000,000 cycles in all
 abbrev pub swept : ℕ → ℕ → ℕ → Option CommandValue
-swept s k c = if nat_le (s + k - 1) last_start && nat_le (k * c) 1000000 then Some (Sweep s k c) else None
+swept s k c = if nat_le (s + k - 1) last_start && nat_le (k * c) MOST_SWEPT then Some (Sweep s k c) else None
 
 unfoldable pub sweep_of : List (List ℕ) → Option CommandValue
 sweep_of (start ∷ count ∷ cycles ∷ []) = do
   s ← start_of start
-  k ← number_within 1 64 count
+  k ← number_within 1 MOST_STARTS count
   c ← cycles_of cycles
   swept s k c
 sweep_of _ = None
@@ -83,7 +85,7 @@ sweep_of _ = None
 unfoldable pub make_of : List (List ℕ) → Option CommandValue
 make_of (start ∷ cycles ∷ []) = do
   s ← start_of start
-  c ← number_within 1 10000 cycles
+  c ← number_within 1 MOST_MADE cycles
   Some (Make s c)
 make_of _ = None
 

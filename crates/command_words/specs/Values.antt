@@ -1,5 +1,7 @@
 -- Commands without where their words lie in memory.
 use Rattle.std.specs.Prelude.{◌+◌, ◌^◌, ◌<◌, ◌≤◌, option_copied}
+use Rattle.ftpp_base.specs.declared.limits.TheConstants.{MOST_CYCLES}
+use Rattle.command_words.specs.declared.reading.TheConstants.{MOST_MADE, MOST_STARTS}
 use Rattle.command_words.specs.declared.commands.Command.{Command}
 use Rattle.command_words.specs.declared.commands.Command.TheVariants as C
 use Rattle.command_words.specs.Commands.{CommandValue, Run, Trace, Check, Migrate, Soak, Sweep, Make, Node, Audit, Diagnose}
@@ -22,9 +24,9 @@ IsInRange (C.Run config) = Unit {0}
 IsInRange (C.Trace config) = Unit {0}
 IsInRange (C.Check config) = Unit {0}
 IsInRange (C.Migrate config) = Unit {0}
-IsInRange (C.Soak start cycles) = (1 ≤ cycles) × (cycles ≤ 100000)
-IsInRange (C.Sweep start count cycles) = (start + count ≤ 2 ^ 64) × (1 ≤ count) × (count ≤ 64) × (1 ≤ cycles) × (cycles ≤ 100000)
-IsInRange (C.Make start cycles) = (1 ≤ cycles) × (cycles ≤ 10000)
-IsInRange (C.Node element cycles config) = (element < 5) × (1 ≤ cycles) × (cycles ≤ 100000)
+IsInRange (C.Soak start cycles) = (1 ≤ cycles) × (cycles ≤ MOST_CYCLES)
+IsInRange (C.Sweep start count cycles) = (start + count ≤ 2 ^ 64) × (1 ≤ count) × (count ≤ MOST_STARTS) × (1 ≤ cycles) × (cycles ≤ MOST_CYCLES)
+IsInRange (C.Make start cycles) = (1 ≤ cycles) × (cycles ≤ MOST_MADE)
+IsInRange (C.Node element cycles config) = (element < 5) × (1 ≤ cycles) × (cycles ≤ MOST_CYCLES)
 IsInRange (C.Audit named config) = Unit {0}
 IsInRange (C.Diagnose config) = Unit {0}

@@ -7,9 +7,7 @@ ghost use Rattle.command_words.specs.Values.{command_value, IsInRange};
 use crate::commands::Command;
 use crate::numbers::{element, number_within};
 use crate::options::{config, optional_config};
-
-/// The most cycles of a run.
-const MOST_CYCLES: u64 = 100_000;
+use ftpp_base::MOST_CYCLES;
 
 /// The most cycles of a script that is written.
 const MOST_MADE: u64 = 10_000;
@@ -29,7 +27,7 @@ fn soak<'a>(words: &[String]) -> Option<Command<'a>>
     match words {
         [start, cycles] => {
             let start = number_within(0, u64::MAX, start.as_str())?;
-            let cycles = number_within(1, MOST_CYCLES, cycles.as_str())? as u32;
+            let cycles = number_within(1, u64::from(MOST_CYCLES), cycles.as_str())? as u32;
             Some(Command::Soak { start, cycles })
         }
         _ => None,
@@ -46,7 +44,7 @@ fn sweep<'a>(words: &[String]) -> Option<Command<'a>>
         [start, count, cycles] => {
             let start = number_within(0, u64::MAX, start.as_str())?;
             let count = number_within(1, MOST_STARTS, count.as_str())?;
-            let cycles = number_within(1, MOST_CYCLES, cycles.as_str())?;
+            let cycles = number_within(1, u64::from(MOST_CYCLES), cycles.as_str())?;
             if start > u64::MAX - (count - 1) || count * cycles > MOST_SWEPT {
                 return None;
             }
@@ -85,7 +83,7 @@ fn node(words: &[String]) -> Option<Command<'_>>
     match words {
         [number, cycles, options @ ..] => {
             let element = element(number.as_str())?;
-            let cycles = number_within(1, MOST_CYCLES, cycles.as_str())? as u32;
+            let cycles = number_within(1, u64::from(MOST_CYCLES), cycles.as_str())? as u32;
             let config = optional_config(options)?;
             Some(Command::Node {
                 element,

@@ -1,13 +1,15 @@
 -- What the type of a table gives: a group whose numbers are in their ranges, with processors that are there.
 use Rattle.std.specs.Prelude.{ℕ, ◌<◌, ◌≤◌, length, All}
 use Rattle.ftpp_base.specs.declared.element.Proc.{Proc}
+use Rattle.ftpp_base.specs.declared.limits.TheConstants.{PORTS}
+use Rattle.config_table.specs.declared.limits.TheConstants.{LONGEST_WAIT, MOST_SLOTS}
 use Rattle.config_table.specs.declared.groups.Group.{Group}
 use Rattle.config_table.specs.Groups.{members_of, live_count}
 
 -- A processor that is there among n elements of eight ports.
 pub record InRange (n : ℕ) (p : Proc) : Type 0 where
   pub ne : p.ne < n
-  pub port : p.port < 8
+  pub port : p.port < PORTS
 
 -- A group of a valid table for n elements.
 pub record IsBounded (n : ℕ) (g : Group) : Type 0 where
@@ -19,11 +21,11 @@ pub record IsBounded (n : ℕ) (g : Group) : Type 0 where
   pub masked : g.masked.bits < 16
   pub some_live : 1 ≤ live_count g
   pub ts_low : 1 ≤ g.ts
-  pub ts_high : g.ts ≤ 1000
+  pub ts_high : g.ts ≤ LONGEST_WAIT
   pub tr_low : 1 ≤ g.tr
-  pub tr_high : g.tr ≤ 1000
-  pub tx_high : g.tx ≤ 1000
+  pub tr_high : g.tr ≤ LONGEST_WAIT
+  pub tx_high : g.tx ≤ LONGEST_WAIT
   pub outs_low : 1 ≤ g.outs
-  pub outs_high : g.outs ≤ 64
+  pub outs_high : g.outs ≤ MOST_SLOTS
   pub ins_low : 1 ≤ g.ins
-  pub ins_high : g.ins ≤ 64
+  pub ins_high : g.ins ≤ MOST_SLOTS

@@ -6,6 +6,7 @@ use Rattle.ftpp_base.specs.Sets.{has}
 use Rattle.ftpp_base.specs.declared.element.Proc.{Proc}
 use Rattle.ftpp_base.specs.declared.sets.Set8.{Set8}
 use Rattle.config_table.specs.declared.decisions.Service.{Service}
+use Rattle.config_table.specs.declared.limits.TheConstants.{FEWEST_MANAGERS}
 use Rattle.config_table.specs.Groups.{live_members, live_count, elements_of}
 use Rattle.config_table.specs.Table.{TableValue, group_named}
 
@@ -51,4 +52,4 @@ is_left_out table vid admitted ne = stands_at (senders table vid) ne && not (has
 
 -- whether a group has at least three live members
 abbrev pub has_three : TableValue → ℕ → Bool
-has_three table vid = unwrap_or (option_map (λ g. nat_le 3 (live_count g)) (group_named table vid)) false
+has_three table vid = unwrap_or (option_map (λ g. nat_le FEWEST_MANAGERS (live_count g)) (group_named table vid)) false

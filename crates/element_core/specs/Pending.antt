@@ -2,6 +2,7 @@
 use Rattle.std.specs.Prelude.{◌≡◌, ℕ, ◌<◌, ◌≤◌, ◌+◌, ◌⊎◌, Bool, true, false, List, Option}
 use Rattle.ftpp_base.specs.Lists.{each_below}
 use Rattle.ftpp_base.specs.declared.element.Round.TheVariants.{A1, A2, B1, B2}
+use Rattle.ftpp_base.specs.declared.limits.TheConstants.{MOST_CYCLES}
 use Rattle.two_round.specs.Echoes.{Echoes, result_for}
 use Rattle.scoreboard.specs.Times.{AreLinesOf, AreBefore}
 use Rattle.syndrome_log.specs.declared.Syndrome.{Syndrome}
@@ -52,5 +53,5 @@ pub record IsElement (n : ℕ) (e : ElementValue) (pending : Pending n) : Type 0
   pub elements : e.kept.table.n ≡ n
   pub below : e.kept.me < n
   pub cells : HasOwnCells e
-  pub cycle : has_begun e.due ≡ true → e.kept.cycle < 100000
+  pub cycle : has_begun e.due ≡ true → e.kept.cycle < MOST_CYCLES
   pub agreed : 2 ≤ rounds_heard e.due → IsPending n e pending

@@ -17,7 +17,7 @@ use crate::{CycleRecord, Due};
 use bit_vote::Cells;
 use config_table::{Decision, Table};
 use frame_format::FrameBuf;
-use ftpp_base::{Ne, NoMemory, Round};
+use ftpp_base::{MOST_CYCLES, Ne, NoMemory, Round};
 use local_pattern::SystemPattern;
 use packet_format::{Delivered, Descriptor, Packet};
 use processor_buffers::PostFull;
@@ -111,7 +111,7 @@ impl<const N: usize> Element<N> {
     /// The number of the cycle that comes next, or that it is in.
     pub fn cycle(&self) -> u32
         ensures cycle { result ≡ self.now.kept.cycle }
-        ensures most { result ≤ 100000 }
+        ensures most { result ≤ MOST_CYCLES }
     {
         self.kept.cycle()
     }

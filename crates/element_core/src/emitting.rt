@@ -14,7 +14,7 @@ use bit_vote::Cells;
 use config_table::Decision;
 use element_notes::relayed;
 use frame_format::{FrameBuf, encode, encode_one};
-use ftpp_base::{Ne, Round};
+use ftpp_base::{MOST_CYCLES, Ne, Round};
 use link_fabric::Link;
 use two_round::TwoRound;
 
@@ -23,7 +23,7 @@ impl<const N: usize> Element<N> {
     /// admitted member; the packets that it holds of the senders that count. Where it has none, the cells are absent.
     pub fn emit<L: Link<N>>(&mut self, round: Round, link: &mut L)
         requires due { self.old.due ≡ Due.Emit round }
-        requires cycle { self.old.kept.cycle < 100000 }
+        requires cycle { self.old.kept.cycle < MOST_CYCLES }
         requires owner { L.me link.old ≡ self.old.kept.me }
         ensures element { self.new ≡ after_emit round self.old }
         ensures frames { (to : ℕ) → to < N → frames_in (L.leaves link.new) to ≡ (if to == self.old.kept.me then frames_in (L.leaves link.old) to else frame_of self.old round) }

@@ -19,7 +19,7 @@ use config_table::{Decision, Service, Table};
 use data_exchange::contributes;
 use element_ports::Ports;
 use flag_vote::voted;
-use ftpp_base::{Ne, NoMemory, Round, Slot};
+use ftpp_base::{MOST_CYCLES, Ne, NoMemory, Round, Slot};
 use local_pattern::SystemPattern;
 use packet_format::{Delivered, Descriptor, Packet};
 use processor_buffers::PostFull;
@@ -123,7 +123,7 @@ impl KeptState {
     /// The number of the cycle that comes next, or that it is in.
     pub(crate) fn cycle(&self) -> u32
         ensures cycle { result ≡ self.now.cycle }
-        ensures most { result ≤ 100000 }
+        ensures most { result ≤ MOST_CYCLES }
     {
         self.cycle
     }
@@ -214,7 +214,7 @@ impl KeptState {
         pattern: &SystemPattern<N>,
         after: &mut Scoreboard,
     ) -> Decision
-        requires { self.now.cycle < 100000 }
+        requires { self.now.cycle < MOST_CYCLES }
         ensures decision { result ≡ scoreboard_decision self.now.table self.now.cycle (voted_flags self.now.table pattern.now) self.now.scoreboard }
         ensures after { after.new ≡ scoreboard_after self.now.table self.now.cycle (voted_flags self.now.table pattern.now) self.now.scoreboard }
         ensures lines { AreLinesOf self.now.table after.new }

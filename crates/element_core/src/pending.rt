@@ -12,6 +12,7 @@ ghost use Rattle.element_core.specs.Quiet.{is_quiet};
 use crate::kept_state::KeptState;
 use bit_vote::Cells;
 use config_table::{Decision, Kind};
+use ftpp_base::MOST_CYCLES;
 use local_pattern::SystemPattern;
 use pattern_exchange::pattern_into;
 use scoreboard::Scoreboard;
@@ -31,7 +32,7 @@ pub(crate) struct Pending<const N: usize> {
 impl<const N: usize> Pending<N> {
     /// Makes of both rounds of patterns what is agreed, and decides.
     pub(crate) fn decide(&mut self, kept: &KeptState, patterns: &TwoRound<N, 32>)
-        requires { kept.now.cycle < 100000 }
+        requires { kept.now.cycle < MOST_CYCLES }
         ensures results { self.new.results ≡ each_below N (result_for patterns.now) }
         ensures pattern { self.new.pattern ≡ settled N patterns.now }
         ensures decision { self.new.decision ≡ scoreboard_decision kept.now.table kept.now.cycle (voted_flags kept.now.table (settled N patterns.now)) kept.now.scoreboard }

@@ -6,7 +6,7 @@ use crate::Outcome3;
 use config_table::Decision;
 use ftpp_base::{Ne, Proc, Row};
 use local_pattern::SystemPattern;
-use packet_format::{ActAnswer, Packet};
+use packet_format::{ActAnswer, MOST_ACTS, Packet};
 use processor_buffers::Handed;
 use syndrome_log::Syndrome;
 
@@ -75,7 +75,7 @@ pub struct CycleReport<const N: usize> {
     /// The element that was faulty in it, if any.
     pub faulty: Option<Ne>,
     /// The answers to the acts of the processors, in order.
-    pub answers: Row<ActAnswer, 80>,
+    pub answers: Row<ActAnswer, MOST_ACTS>,
     /// The record of each element, by element.
     pub rows: Row<CycleRecord<N>, 5>,
 }

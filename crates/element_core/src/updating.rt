@@ -9,7 +9,7 @@ ghost use Rattle.element_core.specs.Element.{own_service, own_delivery, own_hand
 use crate::Outcome3;
 use crate::kept_state::KeptState;
 use config_table::Decision;
-use ftpp_base::Proc;
+use ftpp_base::{MOST_CYCLES, Proc};
 use packet_format::Packet;
 use processor_buffers::Handed;
 use scoreboard::Scoreboard;
@@ -24,7 +24,7 @@ impl KeptState {
         entry: Option<&Packet>,
         after: &mut Box<Scoreboard>,
     ) -> Option<(Proc, Handed)>
-        requires cycle { self.old.cycle < 100000 }
+        requires cycle { self.old.cycle < MOST_CYCLES }
         requires lines { AreLinesOf self.old.table after.old.value }
         requires earlier { AreBefore (self.old.cycle + 1) after.old.value }
         requires members { OnlyMembersLag self.old.table after.old.value }

@@ -1,8 +1,10 @@
 -- How the input of a node is read: acts and frames.
 use Rattle.std.specs.Prelude.{◌≡◌, ℕ, ◌<◌, Bool, ◌+◌, ◌*◌, ◌==◌, ◌||◌, nat_lt, nat_le, List, [], ◌∷◌, ◌++◌, drop, length, slice_index, if◌then◌else◌}
+use Rattle.frame_format.specs.declared.TheConstants.{FRAME_BYTES}
 use Rattle.ftpp_base.specs.declared.element.Proc.{Proc}
 use Rattle.packet_format.specs.declared.acts.Act.{Act}
 use Rattle.packet_format.specs.declared.acts.Act.TheVariants.{Post, Read}
+use Rattle.packet_format.specs.declared.acts.TheConstants.{MOST_ACTS}
 use Rattle.element_core.specs.AloneRun.{actor}
 use Rattle.element_node.specs.Dialog.{Dialog, and_then, ready, breaks, piece, byte}
 
@@ -47,7 +49,7 @@ read_acts_from me ℕ.zero before = ready before
 read_acts_from me (ℕ.suc count) before = and_then (read_act me) (λ act. read_acts_from me count (before ++ act ∷ []))
 
 unfoldable pub read_counted : ℕ → ℕ → Dialog (List Act)
-read_counted me count = if nat_le count 80 then read_acts_from me count [] else breaks 2
+read_counted me count = if nat_le count MOST_ACTS then read_acts_from me count [] else breaks 2
 
 -- the acts of a cycle: how many, and each
 unfoldable pub read_acts : ℕ → Dialog (List Act)
@@ -60,7 +62,7 @@ abbrev pub length_in : List ℕ → ℕ
 length_in bytes = slice_index bytes 0 * 256 + slice_index bytes 1
 
 unfoldable pub read_frame_of : List ℕ → Dialog (List ℕ)
-read_frame_of bytes = if nat_le (length_in bytes) 331 then piece (length_in bytes) else breaks 5
+read_frame_of bytes = if nat_le (length_in bytes) FRAME_BYTES then piece (length_in bytes) else breaks 5
 
 -- a frame: its length, and as many bytes
 unfoldable pub read_frame : Dialog (List ℕ)

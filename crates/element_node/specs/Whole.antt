@@ -1,10 +1,12 @@
 -- Whole inputs, spelled from acts and frames, and what a node writes for them.
 use Rattle.std.specs.Prelude.{◌≡◌, ℕ, ◌+◌, ◌<◌, ◌≤◌, ◌==◌, List, [], ◌∷◌, ◌++◌, length, slice_index_or, if◌then◌else◌}
+use Rattle.frame_format.specs.declared.TheConstants.{FRAME_BYTES}
 use Rattle.std.specs.List.{flat_map, AllByRecursion}
 use Rattle.ftpp_base.specs.declared.element.Round.{Round}
 use Rattle.ftpp_base.specs.declared.element.Round.TheVariants.{A1, A2, B1, B2}
 use Rattle.packet_format.specs.declared.acts.Act.{Act}
 use Rattle.packet_format.specs.declared.acts.Act.TheVariants.{Post, Read}
+use Rattle.packet_format.specs.declared.acts.TheConstants.{MOST_ACTS}
 use Rattle.element_core.specs.ElementValue.{ElementValue, after_emit, after_absorb, frame_of, frames_in}
 use Rattle.element_node.specs.Input.{IsOwnAct}
 use Rattle.element_node.specs.Node.{after_own_acts, answers_text, cycles_from, framed}
@@ -49,11 +51,11 @@ IsWholeAct me (Read proc) = IsOwnAct me (Read proc)
 
 -- a frame is no longer than the longest
 abbrev pub IsShort : List ℕ → Type 0
-IsShort frame = length frame ≤ 331
+IsShort frame = length frame ≤ FRAME_BYTES
 
 -- What comes in a cycle to one of n elements, as it is.
 pub record IsCycleInput (n me : ℕ) (input : CycleInput) : Type 0 where
-  pub few : length input.acts ≤ 80
+  pub few : length input.acts ≤ MOST_ACTS
   pub acts : AllByRecursion (IsWholeAct me) input.acts
   pub count : (round : Round) → length (input.frames round) ≡ n
   pub own : (round : Round) → slice_index_or (input.frames round) me [] ≡ []

@@ -11,7 +11,7 @@ use crate::Halt;
 use crate::reading::{take_byte, take_piece};
 use ftpp_base::{Ne, Proc};
 use ftpp_outside::Source;
-use packet_format::{Act, Descriptor, HostActs, Packet};
+use packet_format::{Act, Descriptor, HostActs, MOST_ACTS, Packet};
 
 /// The post of 67 bytes: the request and the packet.
 fn post_of(me: Ne, port: u8, body: &[u8; 67]) -> Act
@@ -97,7 +97,7 @@ fn take_counted<S: Source>(
     count: u8,
     acts: &mut HostActs,
 ) -> Result<(), Halt>
-    requires { count ≤ 80 }
+    requires { count ≤ MOST_ACTS }
     ensures own { OnOk result (All (IsOwnAct me) acts.new.items) }
     ensures taken { OnOk result ((w : Option (List ℕ)) → Between (read_acts_from me count []) (ready acts.new.items) (S.left input.old) (S.left input.new) w w) }
     ensures halted { IfErr result (λ halt. (w : Option (List ℕ)) → Halts (read_acts_from me count []) halt (S.left input.old) (S.left input.new) w w) }
@@ -122,7 +122,7 @@ pub(crate) fn take_acts<S: Source>(input: &mut S, me: Ne, acts: &mut HostActs) -
     ensures faults { S.faults input.old ≤ S.faults input.new }
 {
     let count = take_byte(input)?;
-    if count > 80 {
+    if count > MOST_ACTS {
         return Err(Halt::Broken(2));
     }
     take_counted(input, me, count, acts)

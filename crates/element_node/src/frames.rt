@@ -16,7 +16,7 @@ use link_fabric::LinkEnd;
 
 /// The bytes of a frame, so many of them.
 fn take_bytes<S: Source>(input: &mut S, count: usize, frame: &mut FrameBuf) -> Result<(), Halt>
-    requires { count ≤ 331 }
+    requires { count ≤ FRAME_BYTES }
     ensures taken { OnOk result ((w : Option (List ℕ)) → Between (piece count) (ready frame.new.items) (S.left input.old) (S.left input.new) w w) }
     ensures halted { IfErr result (λ halt. (w : Option (List ℕ)) → Halts (piece count) halt (S.left input.old) (S.left input.new) w w) }
     ensures read { result ≡ Err Halt.Read → Rose (S.faults input.old) (S.faults input.new) }

@@ -16,7 +16,7 @@ use crate::{Halt, NodeEnd};
 use config_table::Table;
 use element_core::Element;
 use frame_format::FrameBuf;
-use ftpp_base::{Ne, Round};
+use ftpp_base::{MOST_CYCLES, Ne, Round};
 use ftpp_outside::{ReadFault, Sink, Source, write_all};
 use link_fabric::LinkEnd;
 use packet_format::HostActs;
@@ -70,7 +70,7 @@ fn serve_round<const N: usize, S: Source, K: Sink>(
 ) -> Result<(), Halt>
     requires size { (N ≡ 4) ⊎ (N ≡ 5) }
     requires due { element.old.due ≡ Emit round }
-    requires cycle { element.old.kept.cycle < 100000 }
+    requires cycle { element.old.kept.cycle < MOST_CYCLES }
     requires owner { link.old.owner ≡ element.old.kept.me }
     requires own { slice_index_or (rows_of link.old.came.items) link.old.owner [] ≡ [] }
     requires room { length text.old.items ≤ 5760 }
@@ -108,7 +108,7 @@ fn serve_rounds<const N: usize, S: Source, K: Sink>(
 ) -> Result<(), Halt>
     requires size { (N ≡ 4) ⊎ (N ≡ 5) }
     requires due { element.old.due ≡ Emit A1 }
-    requires cycle { element.old.kept.cycle < 100000 }
+    requires cycle { element.old.kept.cycle < MOST_CYCLES }
     requires owner { link.old.owner ≡ element.old.kept.me }
     requires own { slice_index_or (rows_of link.old.came.items) link.old.owner [] ≡ [] }
     requires room { length text.old.items ≤ 5760 }
@@ -142,7 +142,7 @@ fn serve_cycle<const N: usize, S: Source, K: Sink>(
 ) -> Result<(), Halt>
     requires size { (N ≡ 4) ⊎ (N ≡ 5) }
     requires due { element.old.due ≡ Emit A1 }
-    requires cycle { element.old.kept.cycle < 100000 }
+    requires cycle { element.old.kept.cycle < MOST_CYCLES }
     requires owner { link.old.owner ≡ element.old.kept.me }
     requires own { slice_index_or (rows_of link.old.came.items) link.old.owner [] ≡ [] }
     requires empty { text.old.items ≡ [] }
@@ -205,7 +205,7 @@ fn serve_cycles<const N: usize, S: Source, K: Sink>(
     requires size { (N ≡ 4) ⊎ (N ≡ 5) }
     requires due { element.old.due ≡ Emit A1 }
     requires first { element.old.kept.cycle ≡ 0 }
-    requires most { cycles ≤ 100000 }
+    requires most { cycles ≤ MOST_CYCLES }
     ensures served { Serves (cycles_from cycles element.old) cycles result (S.left input.old) (S.left input.new) (K.written out.old) (K.written out.new) }
     ensures read { result ≡ NodeEnd.Read → Rose (S.faults input.old) (S.faults input.new) }
     ensures write { result ≡ NodeEnd.Write → Rose (K.faults out.old) (K.faults out.new) }
@@ -242,7 +242,7 @@ pub fn serve_node<const N: usize, S: Source, K: Sink>(
     requires elements { table.now.n ≡ N }
     requires below { me < N }
     requires first { 1 ≤ cycles }
-    requires most { cycles ≤ 100000 }
+    requires most { cycles ≤ MOST_CYCLES }
     ensures served { Serves (node me table.now cycles) cycles result (S.left input.old) (S.left input.new) (K.written out.old) (K.written out.new) }
     ensures whole { IfSome (S.left input.old) (λ bytes. IsWholeInput (node me table.now cycles) cycles bytes → IsNoStream result) }
     ensures read { result ≡ NodeEnd.Read → Rose (S.faults input.old) (S.faults input.new) }

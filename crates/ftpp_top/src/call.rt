@@ -28,7 +28,7 @@ use command_steps::{
     refuse_words,
 };
 use command_words::{Command, read_words};
-use ftpp_base::Gate;
+use ftpp_base::{Gate, MOST_CYCLES};
 use ftpp_outside::{Shelf, Sink, Source};
 use link_fabric::Fabric;
 use std::alloc::Global;
@@ -102,7 +102,7 @@ fn migrate_command<K: Sink, H: Shelf>(
 /// `make`: writes the script of the workload of a number.
 fn make_command<K: Sink>(alloc: Global, start: u64, cycles: u32, out: &mut K) -> Status
     requires some { 1 ≤ cycles }
-    requires few { cycles ≤ 100000 }
+    requires few { cycles ≤ MOST_CYCLES }
     ensures ends { EndsAs (Given (made (workload start cycles))) result (K.written out.old) (K.written out.new) }
     ensures only { IsOfOutput result }
     ensures causes { Causes result (record { source = 0; shelf = 0; sink = K.faults out.old; written = K.written out.old }) (record { source = 0; shelf = 0; sink = K.faults out.new; written = K.written out.new }) }
@@ -124,7 +124,7 @@ fn node_command<S: Source, K: Sink, H: Shelf>(
     out: &mut K,
 ) -> Status
     requires some { 1 ≤ cycles }
-    requires few { cycles ≤ 100000 }
+    requires few { cycles ≤ MOST_CYCLES }
     ensures served { Served (node_for (H.files shelf.old) element cycles (option_copied config.entry)) result (S.left input.old) (S.left input.new) (K.written out.old) (K.written out.new) }
     ensures whole { result ≡ Done → IfSome (S.left input.new) (λ bytes. bytes ≡ []) }
     ensures too_long { result ≡ TooLong → IsLongFile (H.files shelf.old) (option_copied config.entry) }

@@ -7,14 +7,14 @@ ghost use Rattle.report_text.specs.Words.{room};
 ghost use Rattle.report_text.specs.Trace.{carried_lines, cycle_frames};
 
 use cluster::Cluster;
-use ftpp_base::{Ne, Round, Slot};
+use ftpp_base::{MOST_CYCLES, Ne, Round, Slot};
 use report_text::{TextBuf, trace_text};
 
 /// The line of one frame, and none from an element to itself.
 fn frame_line<const N: usize>(cluster: &Cluster<N>, at: Slot, from: Ne, to: Ne, text: &mut TextBuf)
     requires from { from < N }
     requires to { to < N }
-    requires cycle { at.cycle < 100000 }
+    requires cycle { at.cycle < MOST_CYCLES }
     requires room { length text.old + 687 ≤ room }
     ensures text { text.new ≡ text.old ++ carried_lines (one_entry at (slice_index_or (rows_in cluster.now.delivered at.round) from []) from to) }
     ensures len { length text.new ≤ length text.old + 682 }
@@ -30,7 +30,7 @@ fn frame_line<const N: usize>(cluster: &Cluster<N>, at: Slot, from: Ne, to: Ne, 
 fn sender_lines<const N: usize>(cluster: &Cluster<N>, at: Slot, from: Ne, text: &mut TextBuf)
     requires size { N ≤ 5 }
     requires from { from < N }
-    requires cycle { at.cycle < 100000 }
+    requires cycle { at.cycle < MOST_CYCLES }
     requires room { length text.old + 3415 ≤ room }
     ensures text { text.new ≡ text.old ++ carried_lines (entries_by at (slice_index_or (rows_in cluster.now.delivered at.round) from []) from N) }
     ensures len { length text.new ≤ length text.old + 2728 }
@@ -43,7 +43,7 @@ fn sender_lines<const N: usize>(cluster: &Cluster<N>, at: Slot, from: Ne, text: 
 /// The lines of the frames of a round, the senders ascending.
 fn round_lines<const N: usize>(cluster: &Cluster<N>, at: Slot, text: &mut TextBuf)
     requires size { N ≤ 5 }
-    requires cycle { at.cycle < 100000 }
+    requires cycle { at.cycle < MOST_CYCLES }
     requires room { length text.old + 14327 ≤ room }
     ensures text { text.new ≡ text.old ++ carried_lines (entries_of at (rows_in cluster.now.delivered at.round) N N) }
     ensures len { length text.new ≤ length text.old + 13640 }
@@ -64,7 +64,7 @@ fn slot(cycle: u32, round: Round) -> Slot
 #[tactic(auto, using(crate::proofs::Traced::cycle_traced))]
 pub(crate) fn cycle_lines<const N: usize>(cluster: &Cluster<N>, cycle: u32, text: &mut TextBuf)
     requires size { (N ≡ 4) ⊎ (N ≡ 5) }
-    requires cycle { cycle < 100000 }
+    requires cycle { cycle < MOST_CYCLES }
     requires room { length text.old + 55247 ≤ room }
     ensures { text.new ≡ text.old ++ carried_lines (cycle_frames N cycle (frame_at cluster.now.delivered)) }
 {

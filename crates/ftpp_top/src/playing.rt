@@ -21,7 +21,7 @@ use cluster::Cluster;
 use config_table::Table;
 use element_core::{CycleReport, Rejoined};
 use fault_script::Player;
-use ftpp_base::{Gate, Ne, NoMemory, Row};
+use ftpp_base::{Gate, MOST_CYCLES, Ne, NoMemory, Row};
 use link_fabric::Fabric;
 use packet_format::{Act, HostActs};
 use script_text::Script;
@@ -107,7 +107,7 @@ fn asks<const N: usize>(script: &Script)
     requires { IsPlayable N (plan_of script.now) }
     ensures below { (ne : ℕ) → script.now.faulty ≡ Some ne → ne < N }
     ensures some { 1 ≤ script.now.cycles }
-    ensures cycles { script.now.cycles ≤ 100000 }
+    ensures cycles { script.now.cycles ≤ MOST_CYCLES }
     ensures acts { length script.now.acts.items ≤ 8000000 }
 {
     let _script = script;

@@ -17,7 +17,7 @@ use crate::playing::Playing;
 use built_in_tables::built_in_5;
 use campaign::{Outcome, TOTALS, Trial};
 use config_table::Table;
-use ftpp_base::NoMemory;
+use ftpp_base::{MOST_CYCLES, NoMemory};
 use link_fabric::Fabric;
 use report_text::Totals;
 use script_text::Script;
@@ -120,7 +120,7 @@ pub struct SoakTrial<F: Fabric + Copy + Sync> {
     pub cycles: u32,
     pub fabric: F,
     ghost some: { 1 ≤ cycles },
-    ghost few: { cycles ≤ 100000 },
+    ghost few: { cycles ≤ MOST_CYCLES },
     ghost honest: { IsTrue (F.honest fabric) },
 }
 

@@ -2,6 +2,7 @@
 use Rattle.std.specs.Prelude.{◌≡◌, ℕ, ◌<◌, ◌≤◌, List, [], ◌∷◌, ◌++◌, length, drop, replicate, Option, Some, None, All, IfSome}
 use Rattle.std.specs.List.{flat_map, zip}
 use Rattle.ftpp_base.specs.declared.element.Proc.{Proc}
+use Rattle.ftpp_base.specs.declared.limits.TheConstants.{MOST_CYCLES}
 use Rattle.packet_format.specs.Numbers.{two_bytes, four_bytes}
 use Rattle.packet_format.specs.Packets.{filled_up}
 use Rattle.packet_format.specs.declared.Descriptor.{Descriptor}
@@ -63,7 +64,7 @@ pub record RowFits (cycle : ℕ) (pair : Group × StateRow) : Type 0 where
 
 -- What is a state: a valid table with one row for each group, in order.
 pub record IsInRange (now : ℕ) (table : TableValue) (rows : List StateRow) : Type 0 where
-  pub cycle : now ≤ 100000
+  pub cycle : now ≤ MOST_CYCLES
   pub valid : IsValid table
   pub one_each : length rows ≡ length table.groups
   pub fit : All (RowFits now) (zip table.groups rows)

@@ -8,6 +8,8 @@ ghost use Rattle.rejoin.specs.declared.AgreedState.{AgreedState};
 ghost use Rattle.rejoin.specs.State.{RequestFits, LagsFit, RowFits, IsInRange, IsState, state_bytes};
 ghost use Rattle.rejoin.specs.Grammar.{EncodedIsSpelled, StateIsSpelled};
 
+use ftpp_base::MOST_CYCLES;
+
 /// A state has one spelling, and bytes spell one state at most: what is read is encoded to the same bytes, and what
 /// was encoded is read back.
 pub fn one_spelling()
@@ -25,7 +27,7 @@ pub fn grammar_of_states()
 
 /// A valid table is a state with rows that are made of its groups, where each of them fits its group.
 pub fn made_of_groups()
-    ensures { (now : ℕ) (table : TableValue) (made : Group → StateRow) → now ≤ 100000 → IsValid table
+    ensures { (now : ℕ) (table : TableValue) (made : Group → StateRow) → now ≤ MOST_CYCLES → IsValid table
         → All (λ g. RowFits now (g, made g)) table.groups → IsInRange now table (map made table.groups) }
 {}
 

@@ -6,7 +6,7 @@ mod reading;
 mod writing;
 
 use config_table::{StateRow, Table};
-use ftpp_base::Row;
+use ftpp_base::{MOST_GROUPS, Row};
 pub use reading::decode_state;
 pub use writing::encode_state;
 
@@ -23,5 +23,5 @@ pub struct AgreedState {
     pub cycle: u32,
     pub table: Table,
     /// What the scoreboard keeps of each group, in the order of the table.
-    pub rows: Row<StateRow, 40>,
+    pub rows: Row<StateRow, MOST_GROUPS>,
 }

@@ -14,7 +14,7 @@ use crate::writing::written;
 use crate::{AgreedState, LAST_CYCLE, STATE_BYTES};
 use byteorder::{BigEndian, ByteOrder};
 use config_table::{Group, StateRow, Table};
-use ftpp_base::{Proc, Row, Set8};
+use ftpp_base::{MOST_GROUPS, Proc, Row, Set8};
 use packet_format::Descriptor;
 
 /// The number in two bytes from a place on.
@@ -103,7 +103,7 @@ fn row_in(vid: u8, bytes: &[u8]) -> StateRow
 
 /// The group of an index.
 fn group_at(bytes: &[u8; STATE_BYTES], i: usize) -> Group
-    requires { i < 40 }
+    requires { i < MOST_GROUPS }
     ensures { result ≡ group_at bytes.now i }
 {
     group_in(&bytes[7 + 47 * i..26 + 47 * i])
@@ -111,7 +111,7 @@ fn group_at(bytes: &[u8; STATE_BYTES], i: usize) -> Group
 
 /// The row of the group of an index.
 fn row_at(bytes: &[u8; STATE_BYTES], i: usize) -> StateRow
-    requires { i < 40 }
+    requires { i < MOST_GROUPS }
     ensures { result ≡ row_at bytes.now i }
 {
     row_in(bytes[7 + 47 * i], &bytes[26 + 47 * i..54 + 47 * i])
@@ -120,13 +120,13 @@ fn row_at(bytes: &[u8; STATE_BYTES], i: usize) -> StateRow
 /// How many groups there are: as many as byte 6 says, and at most 40.
 fn count_in(bytes: &[u8; STATE_BYTES]) -> usize
     ensures count { result ≡ count_from bytes.now }
-    ensures few { result ≤ 40 }
+    ensures few { result ≤ MOST_GROUPS }
 {
-    usize::from(bytes[6]).min(40)
+    usize::from(bytes[6]).min(MOST_GROUPS)
 }
 
 /// The groups, in order.
-fn groups_in(bytes: &[u8; STATE_BYTES]) -> Row<Group, 40>
+fn groups_in(bytes: &[u8; STATE_BYTES]) -> Row<Group, MOST_GROUPS>
     ensures { result.items ≡ groups_from bytes.now }
 {
     let mut groups = Row::new();
@@ -137,7 +137,7 @@ fn groups_in(bytes: &[u8; STATE_BYTES]) -> Row<Group, 40>
 }
 
 /// The rows of the groups, in order.
-fn rows_in(bytes: &[u8; STATE_BYTES]) -> Row<StateRow, 40>
+fn rows_in(bytes: &[u8; STATE_BYTES]) -> Row<StateRow, MOST_GROUPS>
     ensures { result.items ≡ rows_from bytes.now }
 {
     let mut rows = Row::new();

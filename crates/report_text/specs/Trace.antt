@@ -1,10 +1,13 @@
 -- The trace of some frames, and the order of the frames of a cycle.
 use Rattle.std.specs.Prelude.{ℕ, ◌<◌, ◌≤◌, List, ◌++◌, length, map}
+use Rattle.frame_format.specs.declared.TheConstants.{FRAME_BYTES}
+use Rattle.packet_format.specs.declared.acts.TheConstants.{MOST_ACTS}
 use Rattle.std.specs.List.{flat_map, AllByRecursion}
 use Rattle.ftpp_base.specs.Lists.{below, others}
 use Rattle.ftpp_base.specs.declared.element.Round.{Round}
 use Rattle.ftpp_base.specs.declared.element.Round.TheVariants.{A1, A2, B1, B2}
 use Rattle.ftpp_base.specs.declared.element.Slot.{Slot}
+use Rattle.ftpp_base.specs.declared.limits.TheConstants.{MOST_CYCLES}
 use Rattle.link_fabric.specs.declared.fabrics.Carried.{Carried}
 use Rattle.report_text.specs.Words.{room}
 use Rattle.report_text.specs.Lines.{trace_line}
@@ -19,14 +22,14 @@ carried_lines frames = flat_map carried_line frames
 
 -- A frame between two of at most five elements, in a cycle of a run.
 pub record IsOfRun (c : Carried) : Type 0 where
-  pub cycle : c.at.cycle < 100000
+  pub cycle : c.at.cycle < MOST_CYCLES
   pub from : c.from < 5
   pub to : c.to < 5
-  pub bytes : length c.frame.items ≤ 331
+  pub bytes : length c.frame.items ≤ FRAME_BYTES
 
 -- The lines of the frames of a cycle, of which there are at most 80, fit a text with no bytes.
 abbrev pub CycleFits : Type 0
-CycleFits = (frames : List Carried) → length frames ≤ 80 → AllByRecursion IsOfRun frames → length (carried_lines frames) ≤ room
+CycleFits = (frames : List Carried) → length frames ≤ MOST_ACTS → AllByRecursion IsOfRun frames → length (carried_lines frames) ≤ room
 
 -- ---- the frames of a cycle, each by its round, its sender and its receiver
 

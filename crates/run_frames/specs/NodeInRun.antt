@@ -5,7 +5,9 @@ use Rattle.ftpp_base.specs.Lists.{each_below, cell_at, is_this}
 use Rattle.ftpp_base.specs.declared.element.Round.{Round}
 use Rattle.ftpp_base.specs.declared.element.Round.TheVariants.{A1, A2, B1, B2}
 use Rattle.packet_format.specs.declared.acts.Act.{Act}
+use Rattle.packet_format.specs.declared.acts.TheConstants.{MOST_ACTS}
 use Rattle.frame_format.specs.Frames.{first_cell, reads_as}
+use Rattle.frame_format.specs.declared.TheConstants.{FRAME_BYTES}
 use Rattle.config_table.specs.Table.{TableValue, IsValid}
 use Rattle.element_core.specs.Cycle.{State, Input, Shown, start, step}
 use Rattle.element_core.specs.Run.{Journal}
@@ -31,7 +33,7 @@ pub record AreComing (shown : Shown) (input : Input) (me : ℕ) (frames : Coming
   pub packets : (sender : ℕ) → is_this input.faulty sender ≡ true
       → first_cell (reads_as shown.table.n (record { cycle = shown.cycle; round = B1 }) sender (frames B1 sender)) ≡ cell_at input.packets me
   pub bytes : (round : Round) (sender k : ℕ) → is_this input.faulty sender ≡ true → slice_index (frames round sender) k < 256
-  pub short : (round : Round) (sender : ℕ) → is_this input.faulty sender ≡ true → length (frames round sender) ≤ 331
+  pub short : (round : Round) (sender : ℕ) → is_this input.faulty sender ≡ true → length (frames round sender) ≤ FRAME_BYTES
 
 -- a port that is there
 abbrev pub HasPort : Act → Type 0
@@ -41,7 +43,7 @@ HasPort act = (actor act).port < 8
 pub record IsNodeCycle (me : ℕ) (input : Input) : Type 0 where
   pub fault_free : is_this input.faulty me ≡ false
   pub stays : is_this input.rejoined me ≡ false
-  pub few : length (acts_at me input.acts) ≤ 80
+  pub few : length (acts_at me input.acts) ≤ MOST_ACTS
   pub ports : AllByRecursion HasPort (acts_at me input.acts)
 
 -- so it is, and so the frames come, in each cycle of a journal from a state on

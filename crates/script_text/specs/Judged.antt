@@ -1,7 +1,9 @@
 -- A line as an item, or the first test that it fails.
 use Rattle.std.specs.Prelude.{IsTrue, ◌<◌, ℕ, ◌+◌, Bool, true, false, not, ◌&&◌, ◌||◌, ◌==◌, nat_lt, nat_le, List, [], ◌∷◌, codes, Option, Some, None, is_some, Result, Ok, Err, if◌then◌else◌}
+use Rattle.ftpp_base.specs.declared.limits.TheConstants.{MOST_CYCLES}
 use Rattle.packet_format.specs.declared.acts.Act.{Act}
 use Rattle.packet_format.specs.declared.acts.Act.TheVariants.{Post, Read}
+use Rattle.packet_format.specs.declared.acts.TheConstants.{MOST_ACTS}
 use Rattle.script_text.specs.declared.items.Item.{Item}
 use Rattle.script_text.specs.declared.items.Item.TheVariants.{Cycles, Faulty, Asked, Edited, Rejoined}
 use Rattle.fault_script.specs.declared.EditKind.{EditKind}
@@ -39,12 +41,12 @@ asked_at s c = if is_this s.last c then s.asked else 0
 
 -- at most 80 posts and reads of one cycle
 unfoldable pub with_room : SoFar → ℕ → Act → Result Item Refused
-with_room s c act = if nat_lt (asked_at s c) 80 then Ok (Asked c act) else Err TooManyActs
+with_room s c act = if nat_lt (asked_at s c) MOST_ACTS then Ok (Asked c act) else Err TooManyActs
 
 unfoldable pub cycles_line : SoFar → List ℕ → Result Item Refused
 cycles_line s count =
     if is_some s.cycles then Err CyclesLine
-    else number_of count >>= λ c. if nat_le 1 c && nat_le c 100000 then Ok (Cycles c) else Err Number
+    else number_of count >>= λ c. if nat_le 1 c && nat_le c MOST_CYCLES then Ok (Cycles c) else Err Number
 
 unfoldable pub faulty_line : SoFar → List ℕ → Result Item Refused
 faulty_line s element = do
@@ -160,7 +162,7 @@ line_read s words = if is_skipped words then Ok None else line_item s words >>= 
 abbrev pub InOrder : SoFar → Item → Type 0
 InOrder s (Cycles c) = Unit {0}
 InOrder s (Faulty e) = Unit {0}
-InOrder s (Asked c a) = IsTrue (may_follow s.last c) × (asked_at s c < 80)
+InOrder s (Asked c a) = IsTrue (may_follow s.last c) × (asked_at s c < MOST_ACTS)
 InOrder s (Edited e) = IsTrue (may_follow s.last e.cycle)
 InOrder s (Rejoined c next) = IsTrue (may_follow s.last c)
 

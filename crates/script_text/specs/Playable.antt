@@ -1,7 +1,9 @@
 -- What the items of a script keep to, so that it can be played and printed.
 use Rattle.std.specs.Prelude.{ℕ, ◌<◌, ◌≤◌, nat_le, List, [], ◌∷◌, count_by, Option, Some, None, if◌then◌else◌}
+use Rattle.ftpp_base.specs.declared.limits.TheConstants.{MOST_CYCLES}
 use Rattle.std.specs.List.{AllByRecursion}
 use Rattle.packet_format.specs.declared.acts.Act.{Act}
+use Rattle.packet_format.specs.declared.acts.TheConstants.{MOST_ACTS}
 use Rattle.fault_script.specs.declared.Edit.{Edit}
 use Rattle.script_text.specs.Reading.{Plan}
 use Rattle.script_text.specs.Printing.{ActFits, KindFits, IsOther, Within, is_act_at}
@@ -37,13 +39,13 @@ EditIsThere n first rejoins e = IsOther n (faulty_at first rejoins e.cycle) e.to
 -- a script for n elements that can be played
 pub record IsPlayable (n : ℕ) (p : Plan) : Type 0 where
   pub long : 1 ≤ p.cycles
-  pub short : p.cycles ≤ 100000
+  pub short : p.cycles ≤ MOST_CYCLES
   pub first : IsThere n p.faulty
   pub rejoins_order : Within (λ x. x.0) 0 p.cycles p.rejoins
   pub rejoins_apart : Ascend p.rejoins
   pub rejoins : AreOthers n p.faulty p.rejoins
   pub acts_order : Within (λ x. x.0) 0 p.cycles p.acts
   pub acts : AllByRecursion (ActIsThere n) p.acts
-  pub few_acts : (c : ℕ) → count_by (is_act_at c) p.acts ≤ 80
+  pub few_acts : (c : ℕ) → count_by (is_act_at c) p.acts ≤ MOST_ACTS
   pub edits_order : Within (λ e. e.cycle) 0 p.cycles p.edits
   pub edits : AllByRecursion (EditIsThere n p.faulty p.rejoins) p.edits

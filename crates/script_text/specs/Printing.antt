@@ -1,13 +1,16 @@
 -- Items as text, one line each.
 use Rattle.std.specs.Prelude.{◌≡◌, ℕ, zero, suc, ◌+◌, ◌-◌, ◌<◌, ◌≤◌, ◌==◌, false, IsTrue, Bool, List, [], ◌∷◌, ◌++◌, length, map, take, drop, slice_index, codes, Option, Some, None}
+use Rattle.frame_format.specs.declared.TheConstants.{FRAME_BYTES}
 use Rattle.std.specs.List.{flat_map, suffix_len, prefix_len}
 use Rattle.std.specs.Fmt.{decimal}
 use Rattle.hex.specs.Hex.{encode_lower}
 use Rattle.ftpp_base.specs.declared.element.Proc.{Proc}
 use Rattle.ftpp_base.specs.declared.element.Round.{Round}
 use Rattle.ftpp_base.specs.declared.element.Round.TheVariants.{A1, A2, B1, B2}
+use Rattle.ftpp_base.specs.declared.limits.TheConstants.{MOST_CYCLES}
 use Rattle.packet_format.specs.declared.acts.Act.{Act}
 use Rattle.packet_format.specs.declared.acts.Act.TheVariants.{Post, Read}
+use Rattle.packet_format.specs.declared.acts.TheConstants.{MOST_ACTS}
 use Rattle.script_text.specs.declared.items.Item.{Item}
 use Rattle.script_text.specs.declared.items.Item.TheVariants.{Cycles, Faulty, Asked, Edited, Rejoined}
 use Rattle.fault_script.specs.declared.Edit.{Edit}
@@ -134,7 +137,7 @@ abbrev pub KindFits : EditKind → Type 0
 KindFits Drop = Unit {0}
 KindFits Repeat = Unit {0}
 KindFits (Flip offset bits) = (offset ≤ 330) × (bits < 256)
-KindFits (Send frame) = (length frame.items ≤ 331) × AreBytes frame.items
+KindFits (Send frame) = (length frame.items ≤ FRAME_BYTES) × AreBytes frame.items
 
 -- an element below n other than the faulty one, if one is named
 abbrev pub IsOther : ℕ → Option ℕ → Option ℕ → Type 0
@@ -148,13 +151,13 @@ InRun (Some total) c = c < total
 
 -- a cycle of the run that may come behind the last
 abbrev pub MayCome : SoFar → ℕ → Type 0
-MayCome s c = InRun s.cycles c × (c < 100000) × IsTrue (may_follow s.last c)
+MayCome s c = InRun s.cycles c × (c < MOST_CYCLES) × IsTrue (may_follow s.last c)
 
 -- what may come next
 abbrev pub IsNext : SoFar → Item → Type 0
-IsNext s (Cycles c) = (s.cycles ≡ None) × (1 ≤ c) × (c ≤ 100000)
+IsNext s (Cycles c) = (s.cycles ≡ None) × (1 ≤ c) × (c ≤ MOST_CYCLES)
 IsNext s (Faulty e) = InRun s.cycles 0 × (s.named ≡ None) × (s.last ≡ None) × (e < s.n)
-IsNext s (Asked c a) = MayCome s c × (asked_at s c < 80) × ActFits s.n a
+IsNext s (Asked c a) = MayCome s c × (asked_at s c < MOST_ACTS) × ActFits s.n a
 IsNext s (Edited e) = MayCome s e.cycle × IsOther s.n s.faulty e.to × KindFits e.what
 IsNext s (Rejoined c next) = MayCome s c × (is_this s.last c ≡ false) × IsOther s.n s.faulty next
 

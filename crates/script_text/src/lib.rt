@@ -15,6 +15,9 @@ pub use print::print_script;
 pub use reading::read_script;
 use thiserror::Error;
 
+/// The most bytes of a script, and of a trace.
+pub const MOST_SCRIPT_BYTES: usize = 8_388_608;
+
 /// What is asked of a run.
 #[derive(Debug, Drop)]
 pub struct Script {

@@ -12,7 +12,7 @@ ghost use Rattle.script_text.specs.Playable.{IsPlayable};
 ghost use Rattle.fault_script.specs.Edited.{never_fall};
 
 use crate::items::{Item, SoFar};
-use crate::{Script, ScriptError};
+use crate::{MOST_SCRIPT_BYTES, Script, ScriptError};
 use config_table::Table;
 use fault_script::Edit;
 use ftpp_base::Ne;
@@ -147,7 +147,7 @@ impl Reader {
     fn read_lines(&mut self, bytes: &[u8]) -> Result<u32, ScriptError>
         requires start { Stands self.old.so_far.n [] self.old }
         requires elements { self.old.so_far.n ≤ 5 }
-        requires len { length bytes.now ≤ 8388608 }
+        requires len { length bytes.now ≤ MOST_SCRIPT_BYTES }
         ensures { TakesAll self.old.so_far.n bytes.now result self.new }
     {
         let mut rest = Some(bytes);
@@ -168,7 +168,7 @@ impl Reader {
 /// The script of a text for `n` elements.
 fn read(alloc: Global, bytes: &[u8], n: u8) -> Result<Script, ScriptError>
     requires elements { n ≤ 5 }
-    requires len { length bytes.now ≤ 8388608 }
+    requires len { length bytes.now ≤ MOST_SCRIPT_BYTES }
     ensures { Reads result (script_of n bytes.now) }
 {
     let mut reader = Reader::new(alloc, n);
@@ -182,7 +182,7 @@ fn read(alloc: Global, bytes: &[u8], n: u8) -> Result<Script, ScriptError>
 /// It takes memory for the acts, the edits and the rejoins, and is linear in the bytes.
 #[tactic(auto, using(crate::proofs::First::tells_first, crate::proofs::InTurn::answers_script, crate::proofs::InTurn::answers_playable, crate::proofs::InTurn::answers_edits))]
 pub fn read_script(alloc: Global, bytes: &[u8], table: &Table) -> Result<Script, ScriptError>
-    requires { length bytes.now ≤ 8388608 }
+    requires { length bytes.now ≤ MOST_SCRIPT_BYTES }
     // What the definition gives, unless memory ran out.
     ensures exact { Reads result (script_of table.now.n bytes.now) }
     // The line that is named is the first that is refused.

@@ -5,7 +5,7 @@ ghost use Rattle.script_words.specs.Fields.{is_word, is_digit, number_of, number
 ghost use Rattle.hex.specs.Hex.{decode_of, hex_digit_value};
 
 use crate::Refused;
-use frame_format::FrameBuf;
+use frame_format::{FRAME_BYTES, FrameBuf};
 use ftpp_base::{Ne, Proc, Round};
 use packet_format::Packet;
 
@@ -220,7 +220,7 @@ pub fn packet(word: &[u8]) -> Result<Packet, Refused>
 }
 
 /// Writes the bytes of the digits to the front.
-fn decode_frame(word: &[u8], bytes: &mut [u8; 331]) -> Result<(), Refused>
+fn decode_frame(word: &[u8], bytes: &mut [u8; FRAME_BYTES]) -> Result<(), Refused>
     requires { length word.now ≤ 662 }
     ensures { Decodes (decode_of word.now) bytes.old bytes.new result }
 {
@@ -236,7 +236,7 @@ fn decoded_frame(word: &[u8]) -> Result<FrameBuf, Refused>
     requires { length word.now ≤ 662 }
     ensures { result ≡ frame_from (decode_of word.now) }
 {
-    let mut bytes = [0u8; 331];
+    let mut bytes = [0u8; FRAME_BYTES];
     let mut frame = FrameBuf::new();
     match decode_frame(word, &mut bytes) {
         Ok(()) => {

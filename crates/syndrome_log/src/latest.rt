@@ -23,12 +23,13 @@ pub struct SyndromeLog {
 impl Model for SyndromeLog {
     ghost use Rattle.std.specs.Prelude.{◌≡◌, ◌≤◌, List, length};
     ghost use Rattle.syndrome_log.specs.declared.Syndrome.{Syndrome};
+    ghost use Rattle.syndrome_log.specs.declared.latest.TheConstants.{ENTRIES_KEPT};
 
     ghost Value = { List Syndrome };
 
     ghost view = { λ l. l.ring.items };
 
-    ghost invariant = { λ l. (l.ring.capacity ≡ 1024) × (length l.ring.items ≤ 1024) };
+    ghost invariant = { λ l. (l.ring.capacity ≡ ENTRIES_KEPT) × (length l.ring.items ≤ ENTRIES_KEPT) };
 }
 
 impl SyndromeLog {
@@ -45,7 +46,7 @@ impl SyndromeLog {
     /// Appends an entry. A full log drops its oldest entry, which is returned.
     pub fn push(&mut self, s: Syndrome) -> Option<Syndrome>
         ensures latest { self.new ≡ after_push self.old s }
-        ensures overwritten { result ≡ (if nat_lt (length self.old) 1024 then None else slice_get self.old 0) }
+        ensures overwritten { result ≡ (if nat_lt (length self.old) ENTRIES_KEPT then None else slice_get self.old 0) }
     {
         self.ring.push_back(s)
     }
@@ -60,7 +61,7 @@ impl SyndromeLog {
     /// How many entries there are.
     pub fn len(&self) -> usize
         ensures len { result ≡ length self.now }
-        ensures most { result ≤ 1024 }
+        ensures most { result ≤ ENTRIES_KEPT }
     {
         self.ring.len()
     }

@@ -8,7 +8,7 @@ ghost use Rattle.table_update.specs.Updates.{change_of, has_index, with_changed,
 
 use crate::Update;
 use config_table::Group;
-use ftpp_base::{Row, Set8};
+use ftpp_base::{MOST_GROUPS, Row, Set8};
 
 /// Room for the 40 groups that a table can have, and for one more: a table with that one is refused.
 pub(crate) const ROOM_FOR_GROUPS: usize = 41;
@@ -18,7 +18,7 @@ pub(crate) type Groups = Row<Group, ROOM_FOR_GROUPS>;
 
 /// The groups, the one of this number as the update changes it.
 pub(crate) fn changed(groups: &[Group], vid: u8, update: &Update) -> Groups
-    requires few { length groups.now ≤ 40 }
+    requires few { length groups.now ≤ MOST_GROUPS }
     requires index { has_index update.now ≡ true }
     ensures { result.items ≡ with_changed (change_of update.now) vid groups.now }
 {
@@ -71,7 +71,7 @@ fn without_bit(bits: u8, i: u8) -> Set8
 
 /// The groups without the one of this number.
 pub(crate) fn without(groups: &[Group], vid: u8) -> Groups
-    requires { length groups.now ≤ 40 }
+    requires { length groups.now ≤ MOST_GROUPS }
     ensures { result.items ≡ without_group vid groups.now }
 {
     let mut row = Groups::new();
@@ -85,7 +85,7 @@ pub(crate) fn without(groups: &[Group], vid: u8) -> Groups
 
 /// The groups with a new one before the first that has a greater number.
 pub(crate) fn with_formed(groups: &[Group], new: Group) -> Groups
-    requires { length groups.now ≤ 40 }
+    requires { length groups.now ≤ MOST_GROUPS }
     ensures { result.items ≡ with_formed new groups.now }
 {
     let (before, after) = groups.split_at(place_of(groups, &new));

@@ -11,8 +11,8 @@ use crate::lines::frame_on;
 use crate::links::{link_at, per_round};
 use config_table::Table;
 use frame_format::FrameBuf;
-use ftpp_base::{Ne, Slot};
-use script_text::ScriptError;
+use ftpp_base::{MOST_CYCLES, Ne, Slot};
+use script_text::{MOST_SCRIPT_BYTES, ScriptError};
 use script_words::lines::cut_line;
 
 /// What an audit finds of a trace.
@@ -59,7 +59,7 @@ impl<const N: usize> Reading<N> {
 
     /// Takes the frame of the next line. Behind the first that is not expected, none is looked at.
     fn take(&mut self, frame: &FrameBuf)
-        requires cycle { self.old.broken ≡ None → self.old.auditor.known.cycle < 100000 }
+        requires cycle { self.old.broken ≡ None → self.old.auditor.known.cycle < MOST_CYCLES }
         requires lines { self.old.lines + 1 < 2 ^ 32 }
         ensures { Takes N self.old frame.now.items self.new }
     {
@@ -72,7 +72,7 @@ impl<const N: usize> Reading<N> {
     /// Reads the next line.
     fn take_line(&mut self, line: &[u8]) -> Result<(), ScriptError>
         requires size { (N ≡ 4) ⊎ (N ≡ 5) }
-        requires cycle { self.old.broken ≡ None → self.old.auditor.known.cycle < 100000 }
+        requires cycle { self.old.broken ≡ None → self.old.auditor.known.cycle < MOST_CYCLES }
         requires lines { self.old.lines + 1 < 2 ^ 32 }
         ensures { TakesLine N self.old (frame_on N self.old.lines line.now) result self.new }
     {
@@ -91,7 +91,7 @@ impl<const N: usize> Reading<N> {
     /// Reads the next piece between newlines, which is a line or the end behind the last newline.
     fn take_piece(&mut self, piece: &[u8], is_line: bool) -> Result<(), ScriptError>
         requires size { (N ≡ 4) ⊎ (N ≡ 5) }
-        requires cycle { self.old.broken ≡ None → self.old.auditor.known.cycle < 100000 }
+        requires cycle { self.old.broken ≡ None → self.old.auditor.known.cycle < MOST_CYCLES }
         requires lines { self.old.lines + 1 < 2 ^ 32 }
         ensures { TakesPiece N self.old is_line (frame_on N self.old.lines piece.now) result self.new }
     {
@@ -110,7 +110,7 @@ impl<const N: usize> Reading<N> {
         requires frames { self.old.auditor.so_far ≡ [] }
         requires lines { self.old.lines ≡ 0 }
         requires broken { self.old.broken ≡ None }
-        requires len { length bytes.now ≤ 8388608 }
+        requires len { length bytes.now ≤ MOST_SCRIPT_BYTES }
         ensures { ReadsAll N self.old.auditor bytes.now result self.new }
     {
         let mut rest = Some(bytes);
@@ -181,7 +181,7 @@ fn verdict_on<const N: usize>(
     requires elements { table.now.n ≡ N }
     requires size { (N ≡ 4) ⊎ (N ≡ 5) }
     requires named { (ne : ℕ) → named ≡ Some ne → ne < N }
-    requires len { length bytes.now ≤ 8388608 }
+    requires len { length bytes.now ≤ MOST_SCRIPT_BYTES }
     ensures { Audits table.now named bytes.now result }
 {
     let mut reading: Reading<N> = Reading::new(table, named);
@@ -200,7 +200,7 @@ pub fn audit_text<const N: usize>(
 ) -> Result<Verdict, ScriptError>
     requires elements { table.now.n ≡ N }
     requires named { (ne : ℕ) → named ≡ Some ne → ne < N }
-    requires len { length bytes.now ≤ 8388608 }
+    requires len { length bytes.now ≤ MOST_SCRIPT_BYTES }
     ensures { Audits table.now named bytes.now result }
 {
     // a table has four or five elements, which only a call of it tells

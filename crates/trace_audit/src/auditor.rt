@@ -9,7 +9,7 @@ use crate::told::Told;
 use crate::watched::Watched;
 use config_table::Table;
 use frame_format::{FrameBuf, copy_frame};
-use ftpp_base::{Ne, Row};
+use ftpp_base::{MOST_CYCLES, Ne, Row};
 use std::marker::Model;
 
 /// The most frames of a cycle, those among five elements.
@@ -81,7 +81,7 @@ impl<const N: usize> Auditor<N> {
     /// Takes the next frame in the order of a trace, and tells whether it is the one that is expected, or is of the named
     /// element. Fewer than 100,000 cycles are whole.
     pub fn next(&mut self, frame: &FrameBuf) -> bool
-        requires { self.old.known.cycle < 100000 }
+        requires { self.old.known.cycle < MOST_CYCLES }
         ensures answer { result ≡ is_awaited self.old frame.now.items }
         ensures after { self.new ≡ progress_after self.old frame.now.items }
     {

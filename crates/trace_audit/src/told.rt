@@ -22,7 +22,7 @@ use bit_vote::Cells;
 use config_table::{Decision, Service, Table};
 use data_exchange::members_result;
 use frame_format::{FrameBuf, decode_one};
-use ftpp_base::{Ne, Round};
+use ftpp_base::{MOST_CYCLES, Ne, Round};
 use local_pattern::{LocalPattern, SystemPattern};
 use packet_format::Packet;
 use scoreboard::Scoreboard;
@@ -249,7 +249,7 @@ impl<const N: usize> Told<N> {
         requires elements { watched.now.table.n ≡ N }
         requires named { (ne : ℕ) → named.now ≡ Some ne → ne < N }
         requires there { (s r : ℕ) → s < N → r < N → place_of N A1 s r < length frames.now }
-        requires cycle { watched.now.cycle < 100000 }
+        requires cycle { watched.now.cycle < MOST_CYCLES }
         ensures { HoldsPatterns N watched.now named.now (frames_in N (all_bytes frames.now)) self.new }
     {
         self.patterns = round_told(watched, named, frames, Round::A1);
@@ -285,7 +285,7 @@ impl<const N: usize> Told<N> {
         requires size { (N ≡ 4) ⊎ (N ≡ 5) }
         requires elements { watched.now.table.n ≡ N }
         requires named { (ne : ℕ) → named.now ≡ Some ne → ne < N }
-        requires cycle { watched.now.cycle < 100000 }
+        requires cycle { watched.now.cycle < MOST_CYCLES }
         requires before { HoldsBefore N watched.now named.now (all_bytes frames.now) self.old }
         ensures { HoldsTold N watched.now named.now (all_bytes frames.now) self.new }
     {
@@ -302,7 +302,7 @@ impl<const N: usize> Told<N> {
     pub(crate) fn end_cycle(&mut self, watched: &mut Watched<N>, named: &Option<Ne>)
         requires few { N ≤ 5 }
         requires elements { watched.old.table.n ≡ N }
-        requires cycle { watched.old.cycle < 100000 }
+        requires cycle { watched.old.cycle < MOST_CYCLES }
         requires lines { AreLinesOf watched.old.table self.old.after }
         requires earlier { AreBefore (watched.old.cycle + 1) self.old.after }
         ensures { (frames : Frames) → HoldsPatterns N watched.old named.now frames self.old → HoldsPackets N watched.old named.now frames self.old → watched.new ≡ known_after watched.old named.now frames }

@@ -12,7 +12,7 @@ ghost use Rattle.trace_audit.specs.Known.{known_first, known_by, known_with, pop
 use crate::shown::{popped, still_standing};
 use config_table::{Decision, Table};
 use flag_vote::voted;
-use ftpp_base::{Round, Slot};
+use ftpp_base::{MOST_CYCLES, Round, Slot};
 use local_pattern::SystemPattern;
 use packet_format::Packet;
 use scoreboard::Scoreboard;
@@ -84,7 +84,7 @@ impl<const N: usize> Watched<N> {
 
     /// What is decided in the cycle with this agreed pattern, and the scoreboard after it.
     pub(crate) fn decide(&self, pattern: &SystemPattern<N>, after: &mut Scoreboard) -> Decision
-        requires { self.now.cycle < 100000 }
+        requires { self.now.cycle < MOST_CYCLES }
         ensures decision { result ≡ scoreboard_decision self.now.table self.now.cycle (voted_flags self.now.table pattern.now) self.now.scoreboard }
         ensures after { after.new ≡ scoreboard_after self.now.table self.now.cycle (voted_flags self.now.table pattern.now) self.now.scoreboard }
         ensures lines { AreLinesOf self.now.table after.new }
@@ -104,7 +104,7 @@ impl<const N: usize> Watched<N> {
         after: &mut Scoreboard,
     )
         requires few { N ≤ 5 }
-        requires cycle { self.old.cycle < 100000 }
+        requires cycle { self.old.cycle < MOST_CYCLES }
         requires lines { AreLinesOf self.old.table after.old }
         requires earlier { AreBefore (self.old.cycle + 1) after.old }
         ensures { self.new ≡ record {

@@ -6,7 +6,7 @@ ghost use Rattle.workload.specs.Acts.{members, packet_of, posts, reads, acts_at}
 use crate::draws::Draws;
 use byteorder::{BigEndian, ByteOrder};
 use config_table::Table;
-use ftpp_base::Proc;
+use ftpp_base::{MOST_CYCLES, Proc};
 use packet_format::{Act, Descriptor, Packet};
 use std::alloc::AllocError;
 
@@ -82,7 +82,7 @@ pub(crate) fn push_acts(
     draws: &Draws,
     acts: &mut Vec<(u32, Act)>,
 ) -> Result<(), AllocError>
-    requires { cycle < 100000 }
+    requires { cycle < MOST_CYCLES }
     ensures { OnOk result (acts.new.items ≡ acts.old.items ++ acts_at table.now cycle draws.now) }
 {
     push_posts(table, cycle, draws, acts)?;

@@ -5,15 +5,17 @@ ghost use Rattle.script_text.specs.Printing.{IsScript, is_act_at};
 ghost use Rattle.script_text.specs.Playable.{IsPlayable};
 ghost use Rattle.workload.specs.Workload.{workload};
 
+use ftpp_base::MOST_CYCLES;
+
 /// A workload of 1 to 100,000 cycles can be played by five elements: all that it names is there, and cycles
 /// never fall.
 pub fn workloads_can_be_played()
-    ensures { (start cycles : ℕ) → 1 ≤ cycles → cycles ≤ 100000 → IsPlayable 5 (workload start cycles) }
+    ensures { (start cycles : ℕ) → 1 ≤ cycles → cycles ≤ MOST_CYCLES → IsPlayable 5 (workload start cycles) }
 {}
 
 /// It is a script: it can be printed and read again.
 pub fn workloads_are_scripts()
-    ensures { (start cycles : ℕ) → 1 ≤ cycles → cycles ≤ 100000 → IsScript 5 (workload start cycles) }
+    ensures { (start cycles : ℕ) → 1 ≤ cycles → cycles ≤ MOST_CYCLES → IsScript 5 (workload start cycles) }
 {}
 
 /// A cycle has at most 12 acts, and so all cycles together at most 12 times their number.

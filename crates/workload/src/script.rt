@@ -11,13 +11,13 @@ use crate::acts::push_acts;
 use crate::draws::Stream;
 use crate::edits::push_edit;
 use built_in_tables::built_in_5;
-use ftpp_base::{Ne, NoMemory};
+use ftpp_base::{MOST_CYCLES, Ne, NoMemory};
 use script_text::Script;
 use std::alloc::{AllocError, Global};
 
 /// The script of the number, if there is memory.
 fn generate(alloc: Global, start: u64, cycles: u32) -> Result<Script, AllocError>
-    requires { cycles ≤ 100000 }
+    requires { cycles ≤ MOST_CYCLES }
     ensures { IfOk result (λ s. plan_of s ≡ workload start cycles) }
 {
     let table = built_in_5();
@@ -44,7 +44,7 @@ fn generate(alloc: Global, start: u64, cycles: u32) -> Result<Script, AllocError
 /// one a cycle; want of memory is the only refusal.
 pub fn make_script(alloc: Global, start: u64, cycles: u32) -> Result<Script, NoMemory>
     requires some { 1 ≤ cycles }
-    requires few { cycles ≤ 100000 }
+    requires few { cycles ≤ MOST_CYCLES }
     // The workload as it is defined, field by field.
     ensures script { IfOk result (λ s. plan_of s ≡ workload start cycles) }
     // It can be played by five elements, and printed and read again.

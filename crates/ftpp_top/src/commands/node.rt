@@ -8,7 +8,7 @@ ghost use Rattle.ftpp_top.specs.Served.{IsOfNode, ServesNode, status_of};
 use command_steps::Status;
 use config_table::Table;
 use element_node::{NodeEnd, serve_node};
-use ftpp_base::Ne;
+use ftpp_base::{MOST_CYCLES, Ne};
 use ftpp_outside::{Sink, Source};
 use std::alloc::Global;
 
@@ -36,7 +36,7 @@ pub(crate) fn node<S: Source, K: Sink>(
 ) -> Status
     requires below { me < table.now.n }
     requires first { 1 ≤ cycles }
-    requires most { cycles ≤ 100000 }
+    requires most { cycles ≤ MOST_CYCLES }
     ensures served { ServesNode (record { table = table.now; element = me; cycles = cycles }) result (S.left input.old) (S.left input.new) (K.written out.old) (K.written out.new) }
     ensures only { IsOfNode result }
     ensures read { result ≡ Read → Rose (S.faults input.old) (S.faults input.new) }

@@ -22,7 +22,7 @@ use crate::playing::Playing;
 use crate::soak_line::soak_line;
 use built_in_tables::built_in_5;
 use command_steps::Status;
-use ftpp_base::Gate;
+use ftpp_base::{Gate, MOST_CYCLES};
 use ftpp_outside::{Sink, WriteFault, write_all};
 use link_fabric::Fabric;
 use report_text::Totals;
@@ -88,7 +88,7 @@ pub(crate) fn soak<R: Threads + Sync, F: Fabric, G: Gate, K: Sink>(
     out: &mut K,
 ) -> Status
     requires some { 1 ≤ cycles }
-    requires few { cycles ≤ 100000 }
+    requires few { cycles ≤ MOST_CYCLES }
     ensures ends { Ends (shown (F.honest fabric.old) (soaked start cycles)) result (K.written out.old) (K.written out.new) }
     ensures carried { IsTrue (F.honest fabric.old) → CarriesRun (soak_run start cycles) result (F.told fabric.old) (F.told fabric.new) }
     ensures only { IsOfOutput result }

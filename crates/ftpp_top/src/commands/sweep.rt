@@ -12,7 +12,7 @@ use crate::soak_line::soak_line;
 use crate::trials::{SoakTrial, totals_of};
 use campaign::{Outcome, sweep as sweep_trials};
 use command_steps::Status;
-use ftpp_base::Gate;
+use ftpp_base::{Gate, MOST_CYCLES};
 use ftpp_outside::{Sink, WriteFault, write_all};
 use link_fabric::Mesh;
 use std::alloc::Global;
@@ -45,7 +45,7 @@ pub(crate) fn sweep<R: Threads + Sync, G: Gate, K: Sink>(
     requires starts { start + count ≤ 2 ^ 64 }
     requires count { (1 ≤ count) × (count ≤ 64) }
     requires some { 1 ≤ cycles }
-    requires few { cycles ≤ 100000 }
+    requires few { cycles ≤ MOST_CYCLES }
     ensures ends { Ends (swept start count cycles) result (K.written out.old) (K.written out.new) }
     ensures only { IsOfOutput result }
     ensures write { result ≡ Write → Rose (K.faults out.old) (K.faults out.new) }

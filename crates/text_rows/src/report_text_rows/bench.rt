@@ -7,7 +7,7 @@ use super::cases::{Asked, Case, Decided, FrameCase, Run, Way};
 use config_table::{Decision, Kind, Service};
 use element_core::{CycleRecord, CycleReport, Rejoined};
 use frame_format::FrameBuf;
-use ftpp_base::{Ne, Proc, Row, Set8};
+use ftpp_base::{MOST_CYCLES, Ne, Proc, Row, Set8};
 use local_pattern::{Entry, LocalPattern, SystemPattern};
 use packet_format::{Act, ActAnswer, Delivered, Descriptor, HostActs, Packet};
 use processor_buffers::Handed;
@@ -299,7 +299,7 @@ fn fullest() -> Option<(HostActs, CycleReport<5>)> {
 
 /// Whether the totals are of fewer cycles than a run has, and no total is above what they can show.
 fn may_grow(totals: &Totals) -> bool
-    ensures cycles { IsTrue result → totals.now.cycles < 100000 }
+    ensures cycles { IsTrue result → totals.now.cycles < MOST_CYCLES }
     ensures bounded { IsTrue result → IsBounded totals.now }
 {
     if totals.cycles >= 100_000 {
