@@ -122,7 +122,7 @@ pub(crate) fn take_acts<S: Source>(input: &mut S, me: Ne, acts: &mut HostActs) -
     ensures faults { S.faults input.old ≤ S.faults input.new }
 {
     let count = take_byte(input)?;
-    if count > MOST_ACTS {
+    if count as usize > MOST_ACTS {
         return Err(Halt::Broken(2));
     }
     take_counted(input, me, count, acts)
