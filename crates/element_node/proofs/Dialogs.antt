@@ -1,5 +1,5 @@
 -- How calls that read and write follow one another.
-use Rattle.std.proofs.Common.{◌≡◌, ℕ, List, [], ◌++◌, take, drop, Option, refl, ap, sym, ◌∙◌, append_assoc, append-nil, subst, Result, Ok, Err, IsErrAnd, IfErr, IfOk, OnOk}
+use Rattle.std.proofs.Common.{◌≡◌, ℕ, List, [], ◌++◌, take, drop, Option, refl, ap, sym, ◌∙◌, append_assoc, subst, Result, Ok, Err, IsErrAnd, IfErr, IfOk, OnOk}
 use Rattle.std.proofs.lemmas.List.{take-append-drop}
 use Rattle.ftpp_outside.specs.Told.{Adds}
 use Rattle.ftpp_outside.proofs.Told.{gives_none, gives_both, adds_none, adds_both}

@@ -1,5 +1,4 @@
-use Rattle.std.proofs.Common.{◌≡◌, ap, arith, length, ◌-◌, ◌+◌, ◌++◌, ◌∷◌, [], subst, sym}
-use Rattle.std.specs.List.{All}
+use Rattle.std.proofs.Common.{◌≡◌, ap, arith, length, ◌-◌, ◌+◌, ◌++◌, ◌∷◌, []}
 use Rattle.std.proofs.lemmas.List.Elements.{All-nil, All-push}
 use Rattle.element_node.specs.Dialog.{ready}
 use Rattle.element_node.specs.Input.{IsOwnAct, read_act, read_acts_from}
