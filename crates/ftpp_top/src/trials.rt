@@ -1,6 +1,7 @@
 //! Soaks: the workload of a number, played for its totals.
 
 ghost use Rattle.std.specs.Prelude.{◌≡◌, suc, ◌+◌, ◌≤◌, ◌⊎◌, List, Option, length, IfOk, IsTrue};
+ghost use Rattle.ftpp_base.specs.declared.limits.TheConstants.{MOST_CYCLES};
 ghost use Rattle.link_fabric.specs.declared.fabrics.Carried.{Carried};
 ghost use Rattle.report_text.specs.Sums.{IsBounded};
 ghost use Rattle.ftpp_top.specs.Loops.{IsSumming};
@@ -17,7 +18,7 @@ use crate::playing::Playing;
 use built_in_tables::built_in_5;
 use campaign::{Outcome, TOTALS, Trial};
 use config_table::Table;
-use ftpp_base::{MOST_CYCLES, NoMemory};
+use ftpp_base::NoMemory;
 use link_fabric::Fabric;
 use report_text::Totals;
 use script_text::Script;
