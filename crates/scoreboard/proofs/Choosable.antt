@@ -1,6 +1,6 @@
 -- The groups that may be chosen, over the groups of a table and by their numbers.
-use Rattle.std.proofs.Common.{◌≡◌, ◌≢◌, ℕ, ◌+◌, ◌<◌, Bool, true, false, List, [], ◌∷◌, ◌++◌, take, length, refl, ap, sym, ◌∙◌, arith, inl, inr, get_or, take-suc, suc, Contains}
-use Rattle.std.specs.Prelude.{Option, Some, None, option_map, unwrap_or, ◌==◌, ◌&&◌, ◌||◌}
+use Rattle.std.proofs.Common.{◌≡◌, ◌≢◌, ℕ, ◌+◌, ◌<◌, Bool, true, false, List, [], ◌∷◌, ◌++◌, take, length, refl, ap, sym, ◌∙◌, arith, ◌⊎◌, inl, inr, cond, get_or, take-suc, suc, Contains}
+use Rattle.std.specs.Prelude.{Option, Some, None, option_map, unwrap_or, is_some, ◌==◌, ◌&&◌, ◌||◌}
 use Rattle.std.specs.List.{list_any}
 use Rattle.std.proofs.lemmas.Bool.{cases_eq, eqb-true, eq-eqb, ne_eqb, and_parts, and_from, and_left, and_right, or_cases, or_right, false_from_ne_true}
 use Rattle.ftpp_base.proofs.Items.{IsItem, item_any, item_contains, contains_item}
@@ -9,8 +9,11 @@ use Rattle.config_table.specs.declared.groups.Group.{Group}
 use Rattle.config_table.specs.declared.decisions.GroupFlags.{GroupFlags}
 use Rattle.config_table.specs.Table.{TableValue, IsValid, group_named}
 use Rattle.config_table.proofs.ValidTable.{named-itself, named-there}
-use Rattle.scoreboard.specs.Board.{Scoreboard}
-use Rattle.scoreboard.specs.Steps.{may_be_chosen, is_choosable}
+use Rattle.sender_choice.specs.Sinces.{Sinces, is_held, nothing_held, with_since}
+use Rattle.scoreboard.specs.Board.{Scoreboard, Waiting, line_of, flags_named}
+use Rattle.scoreboard.specs.Choice.{is_eligible, request_by}
+use Rattle.scoreboard.specs.Steps.{may_be_chosen, is_choosable, sinces_in}
+use Rattle.scoreboard.proofs.Holding.{AreKnown, known_with}
 
 -- whether the group has that number and may be chosen
 abbrev pub is_choice_of : TableValue → List GroupFlags → ℕ → Scoreboard → ℕ → Group → Bool
@@ -89,3 +92,64 @@ has_same old n vid b out = sym (or_false (has_vid old vid) (n == vid && b) (and_
   or_false : (a c : Bool) → c ≡ false → (a || c) ≡ a
   or_false true c e = refl
   or_false false c e = e
+
+-- ---- the groups so far
+
+-- The choosable groups among the first k are in the set, and each of these is held since its request waits.
+pub record IsChoosing (table : TableValue) (flags : List GroupFlags) (now : ℕ) (board : Scoreboard) (k : ℕ) (eligible : List Bool) (held : Sinces) : Type 0 where
+  pub chosen : (vid : ℕ) → has_vid eligible vid ≡ list_any (is_choice_of table flags now board vid) (take k table.groups)
+  pub since : (vid : ℕ) → has_vid eligible vid ≡ true → held vid ≡ sinces_in board vid
+  pub known : AreKnown table held
+
+-- no group is held before the first
+pub none_yet : (table : TableValue) (flags : List GroupFlags) (now : ℕ) (board : Scoreboard) (eligible : List Bool) (held : Sinces)
+    → ((vid : ℕ) → has_vid eligible vid ≡ false) → held ≡ nothing_held → IsChoosing table flags now board 0 eligible held
+none_yet table flags now board eligible held out none = record {
+  chosen = out;
+  since = λ vid e. let never = out vid in cc;
+  known = λ vid e. let gone = ap (λ s. is_held s vid) none in cc;
+}
+
+-- one group more that may be chosen
+pub choose_more : (table : TableValue) (flags : List GroupFlags) (now : ℕ) (board : Scoreboard) (k : ℕ) (old new : List Bool) (held after : Sinces) (g : Group) (since : ℕ)
+    → IsValid table → IsChoosing table flags now board k old held → k < length table.groups → get_or table.groups k g ≡ g
+    → may_be_chosen table flags now board g ≡ true → sinces_in board g.vid ≡ Some since
+    → has_vid new g.vid ≡ true → ((other : ℕ) → other ≢ g.vid → has_vid new other ≡ has_vid old other) → after ≡ with_since held g.vid since
+    → IsChoosing table flags now board (k + 1) new after
+choose_more table flags now board k old new held after g since valid h l at passes waits put others next = record {
+  chosen = λ vid.
+      let test = is_choice_of table flags now board vid in
+      has_more old new g.vid vid (may_be_chosen table flags now board g) passes put others
+      ∙ ap (λ b. b || test g) (h.chosen vid) ∙ sym (any_more test table.groups k g l at);
+  since = λ vid e. ap (λ s. s vid) next ∙ by_group vid e (cases_eq vid g.vid);
+  known = λ vid e. known_with table held g.vid since (ap is_some (named-itself table valid g (k, l, at))) h.known vid (sym (ap (λ s. is_held s vid) next) ∙ e);
+} where
+  by_group : (vid : ℕ) → has_vid new vid ≡ true → (vid ≡ g.vid) ⊎ (vid ≢ g.vid) → with_since held g.vid since vid ≡ sinces_in board vid
+  by_group vid e (inl same) = ap (λ b. cond b (Some since) (held vid)) (eq-eqb vid g.vid same) ∙ sym waits ∙ ap (sinces_in board) (sym same)
+  by_group vid e (inr differs) = ap (λ b. cond b (Some since) (held vid)) (ne_eqb vid g.vid differs) ∙ h.since vid (sym (others vid differs) ∙ e)
+
+-- and one that may not
+pub choose_same : (table : TableValue) (flags : List GroupFlags) (now : ℕ) (board : Scoreboard) (k : ℕ) (old new : List Bool) (held after : Sinces) (g : Group)
+    → IsChoosing table flags now board k old held → k < length table.groups → get_or table.groups k g ≡ g
+    → may_be_chosen table flags now board g ≡ false → new ≡ old → after ≡ held → IsChoosing table flags now board (k + 1) new after
+choose_same table flags now board k old new held after g h l at out same next = record {
+  chosen = λ vid.
+      let test = is_choice_of table flags now board vid in
+      ap (λ s. has_vid s vid) same ∙ has_same old g.vid vid (may_be_chosen table flags now board g) out
+      ∙ ap (λ b. b || test g) (h.chosen vid) ∙ sym (any_more test table.groups k g l at);
+  since = λ vid e. ap (λ s. s vid) next ∙ h.since vid (sym (ap (λ s. has_vid s vid) same) ∙ e);
+  known = λ vid e. h.known vid (sym (ap (λ s. is_held s vid) next) ∙ e);
+}
+
+-- ---- a group without a request
+
+-- it may not be chosen
+none_by : (o : Option GroupFlags) (w : Option Waiting) (table : TableValue) (flags : List GroupFlags) (now : ℕ) (board : Scoreboard) (g : Group) → w ≡ None
+    → unwrap_or (option_map (is_eligible table flags board now) (request_by g o w)) false ≡ false
+none_by None w table flags now board g e = refl
+none_by (Some one) None table flags now board g e = refl
+none_by (Some one) (Some w) table flags now board g e = cc
+
+pub no_request : (table : TableValue) (flags : List GroupFlags) (now : ℕ) (board : Scoreboard) (g : Group) → (line_of board g.vid).request ≡ None
+    → may_be_chosen table flags now board g ≡ false
+no_request table flags now board g none = none_by (flags_named flags g.vid) (line_of board g.vid).request table flags now board g none

@@ -3,7 +3,7 @@ use Rattle.std.proofs.Common.{◌≡◌, ℕ, ◌≤◌, Bool, true, false, List
 use Rattle.std.specs.Prelude.{Option, Some, None, option_map, option_and_then, unwrap_or}
 use Rattle.ftpp_base.specs.Vids.{has_vid}
 use Rattle.ftpp_base.proofs.Items.{IsItem, item_all, item_filter, filter_item, item_filter_map, filter_map_item, item_contains, contains_item}
-use Rattle.sender_choice.specs.Sinces.{IsOldest, IsChoice}
+use Rattle.sender_choice.specs.Sinces.{Sinces, IsOldest, IsChoice}
 use Rattle.config_table.specs.declared.groups.Group.{Group}
 use Rattle.config_table.specs.declared.decisions.GroupFlags.{GroupFlags}
 use Rattle.config_table.specs.Table.{TableValue, IsValid, group_named}
@@ -119,6 +119,18 @@ some_chosen eligible table flags now board vid since valid fits is =
       | inr more ↦ let same = more.0 in let high = more.1 in let least = first.number (begun ∙ same) in omega arith
     ] in
     found.1 ∙ sym mine.named ∙ ap (request_named table flags board) one
+
+-- ---- the choice of a chooser
+
+-- A chooser that holds each choosable group since its request waits makes the same choice as one that holds them all.
+pub choice_of_held : (eligible : List Bool) (held all : Sinces) (choice : Option (ℕ × ℕ)) → ((vid : ℕ) → has_vid eligible vid ≡ true → held vid ≡ all vid)
+    → IsChoice held eligible choice → IsChoice all eligible choice
+choice_of_held eligible held all None same is = λ vid e. sym (same vid e) ∙ is vid e
+choice_of_held eligible held all (Some p) same is = record {
+  held_since = sym (same p.0 is.may_be_chosen) ∙ is.held_since;
+  may_be_chosen = is.may_be_chosen;
+  least = λ other later e h. is.least other later (same other h ∙ e) h;
+}
 
 -- ---- the decision
 

@@ -7,22 +7,19 @@ use Rattle.std.proofs.lemmas.Bool.{eq-eqb, ne_eqb, eqb-true}
 use Rattle.packet_format.specs.declared.Descriptor.{Descriptor}
 use Rattle.packet_format.specs.Packets.{same_descriptor}
 use Rattle.ftpp_base.proofs.Items.{find-map}
-use Rattle.sender_choice.specs.Sinces.{nothing_held, without_since}
 use Rattle.config_table.specs.declared.groups.Group.{Group}
 use Rattle.config_table.specs.declared.decisions.GroupFlags.{GroupFlags}
 use Rattle.config_table.specs.declared.decisions.StateRow.{StateRow}
 use Rattle.config_table.specs.declared.decisions.Decision.{Decision}
 use Rattle.config_table.specs.declared.decisions.Decision.TheVariants.{Idle, Discard, Exchange}
 use Rattle.config_table.specs.Table.{TableValue, IsValid, is_named, group_named}
-use Rattle.config_table.proofs.ValidTable.{named-there}
 use Rattle.config_table.proofs.NamedGroups.{Ascending, Ascending-valid}
 use Rattle.scoreboard.specs.Board.{Scoreboard, Waiting, is_line_of, blank_line, line_of, line_after, flags_named, lacks_space, waiting_since, request_after, says_full, lags_after, marked, marked_line, without_request, updated_line, after_update, empty_scoreboard}
 use Rattle.scoreboard.specs.Choice.{after_decision, scoreboard_decision, scoreboard_after}
-use Rattle.scoreboard.specs.Steps.{sinces_in, group_line, lines_but}
 use Rattle.scoreboard.specs.Times.{IsBefore, AreBefore, AreHeldBy, AreOthersHeldBy, line_number, group_number, line_for, lines_for, AreLinesOf}
 use Rattle.scoreboard.proofs.Lines.{keeps_vid}
 use Rattle.scoreboard.proofs.Rows.{line_vid, line_of-without_request}
-use Rattle.scoreboard.proofs.Holding.{since_of, line_there}
+use Rattle.scoreboard.proofs.Holding.{line_there}
 
 -- ---- lines made group by group
 
@@ -158,7 +155,7 @@ ended_number : (b : Bool) (line : StateRow) → (cond b (record line { request =
 ended_number true line = refl
 ended_number false line = refl
 
-numbers_without : (vid : ℕ) (board : Scoreboard) → map line_number (without_request vid board) ≡ map line_number board
+pub numbers_without : (vid : ℕ) (board : Scoreboard) → map line_number (without_request vid board) ≡ map line_number board
 numbers_without vid [] = refl
 numbers_without vid (line ∷ lines) = λ i. ended_number (is_line_of vid line) line i ∷ numbers_without vid lines i
 
@@ -252,60 +249,3 @@ same_lines (g ∷ gs) (l ∷ ls) up e =
 
 pub lines_for-same : (table : TableValue) (board : Scoreboard) → IsValid table → AreLinesOf table board → lines_for table board ≡ board
 lines_for-same table board valid lines = same_lines table.groups board (Ascending-valid table valid) lines
-
--- ---- since when requests wait
-
--- by the group of a number
-empty_by : (o : Option Group) (vid : ℕ) → since_of (unwrap_or (option_map (group_line [] None) o) (blank_line vid)) ≡ None
-empty_by None vid = refl
-empty_by (Some g) vid = refl
-
--- no request waits
-pub sinces_empty : (table : TableValue) → nothing_held ≡ sinces_in (lines_but table [] None)
-sinces_empty table = λ i vid. sym (ap since_of (line_made (group_line [] None) table vid (λ g. refl)) ∙ empty_by (group_named table vid) vid) i
-
--- by whether a line loses its request
-ended_since : (b : Bool) (line : StateRow) → since_of (cond b (record line { request = None }) line) ≡ cond b None (since_of line)
-ended_since true line = refl
-ended_since false line = refl
-
--- the request of one group is gone
-pub sinces_without : (vid : ℕ) (board : Scoreboard) → without_since (sinces_in board) vid ≡ sinces_in (without_request vid board)
-sinces_without vid board = λ i other. sym (at other) i where
-  at : (other : ℕ) → sinces_in (without_request vid board) other ≡ without_since (sinces_in board) vid other
-  at other =
-      ap since_of (line_of-without_request vid board other)
-      ∙ ended_since (is_line_of vid (line_of board other)) (line_of board other)
-      ∙ ap (λ n. cond (n == vid) None (since_of (line_of board other))) (line_vid board other)
-
--- a group that is not in the table has no request, but the one that was updated
-gone_by : (b : Bool) (o : Option Waiting) → (b ≡ false → is_some o ≡ true → ⊥) → ◌≡◌ {A = Option ℕ} (cond b None (option_map (λ w. w.1) o)) None
-gone_by true o h = refl
-gone_by false None h = refl
-gone_by false (Some w) h = absurd (h refl refl)
-
--- by whether the group was updated
-updated_since : (b : Bool) (vid : ℕ) (line : StateRow) → cond b None (since_of line) ≡ since_of (cond b (blank_line vid) line)
-updated_since true vid line = refl
-updated_since false vid line = refl
-
--- by the group of the number
-update_by : (o : Option Group) (table : TableValue) (vid : ℕ) (board : Scoreboard) (other : ℕ) → group_named table other ≡ o → AreOthersHeldBy table vid board
-    → without_since (sinces_in board) vid other ≡ since_of (unwrap_or (option_map (updated_line vid board) o) (blank_line other))
-update_by None table vid board other named held =
-    gone_by (other == vid) (line_of board other).request (λ differ has. let there = held other (λ e. let same = eq-eqb other vid e in cc) has in let none = ap is_some named in cc)
-update_by (Some g) table vid board other named held =
-    let number : other ≡ g.vid = sym (named-there table other g named).1 in
-    ap (without_since (sinces_in board) vid) number ∙ updated_since (g.vid == vid) vid (line_of board g.vid)
-
--- so they do after an update
-pub sinces_update : (table : TableValue) (vid : ℕ) (board : Scoreboard) → AreOthersHeldBy table vid board → without_since (sinces_in board) vid ≡ sinces_in (after_update table vid board)
-sinces_update table vid board held = λ i other.
-    (update_by (group_named table other) table vid board other refl held ∙ sym (ap since_of (line_made (updated_line vid board) table other (updated_number vid board)))) i
-
--- each group with a since has a request
-pub held_known : (table : TableValue) (board : Scoreboard) (vid : ℕ) → AreHeldBy table board → is_some (sinces_in board vid) ≡ true → is_some (group_named table vid) ≡ true
-held_known table board vid held e = held vid (has_request (line_of board vid).request e) where
-  has_request : (o : Option Waiting) → is_some (option_map (λ w. w.1) o) ≡ true → is_some o ≡ true
-  has_request None f = cc
-  has_request (Some w) f = refl

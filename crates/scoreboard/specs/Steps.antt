@@ -1,5 +1,5 @@
 -- The parts of a step: which group may be chosen, and whose request a decision takes.
-use Rattle.std.specs.Prelude.{ℕ, Bool, false, ◌||◌, ◌&&◌, ◌==◌, nat_lt, List, map, Option, Some, None, option_map, option_and_then, unwrap_or, is_some, if◌then◌else◌}
+use Rattle.std.specs.Prelude.{ℕ, ◌+◌, Bool, true, false, not, ◌||◌, ◌&&◌, ◌==◌, nat_lt, nat_le, List, [], ◌∷◌, map, Option, Some, None, option_map, option_and_then, unwrap_or, is_some, if◌then◌else◌}
 use Rattle.sender_choice.specs.Sinces.{Sinces}
 use Rattle.config_table.specs.declared.groups.Group.{Group}
 use Rattle.config_table.specs.declared.decisions.GroupFlags.{GroupFlags}
@@ -9,6 +9,23 @@ use Rattle.config_table.specs.declared.decisions.Decision.TheVariants.{Idle, Dis
 use Rattle.config_table.specs.Table.{TableValue, group_named}
 use Rattle.scoreboard.specs.Board.{Scoreboard, Waiting, blank_line, line_of}
 use Rattle.scoreboard.specs.Choice.{Request, reason, is_granted, is_expired, is_eligible, request_in}
+
+-- the line that was found, or the blank one
+abbrev pub line_or : Option StateRow → ℕ → StateRow
+line_or line vid = unwrap_or line (blank_line vid)
+
+-- whether numbers ascend, the first no less than a least one
+abbrev pub ascend : ℕ → List ℕ → Bool
+ascend least [] = true
+ascend least (n ∷ ns) = nat_le least n && ascend (n + 1) ns
+
+-- the number of flags
+abbrev pub flags_number : GroupFlags → ℕ
+flags_number one = one.vid
+
+-- whether a group has another number
+abbrev pub is_other_group : ℕ → Group → Bool
+is_other_group vid g = not (g.vid == vid)
 
 -- a request that waits, of a group
 abbrev pub request_from : Group → GroupFlags → Waiting → Request

@@ -9,12 +9,13 @@ ghost use Rattle.scoreboard.specs.Choice.{decision_of, after_decision, scoreboar
 ghost use Rattle.scoreboard.specs.Steps.{sinces_in, line_but, lines_but};
 ghost use Rattle.scoreboard.specs.Times.{AreBefore, AreOthersHeldBy, AreLinesOf, OnlyMembersLag, OnlyOthersLag, lines_for};
 
-use crate::choice::choosable;
+use crate::choice::put_choosable;
 use crate::decision::{decided, taken};
-use crate::lookups::{blank_line, groups_in, line_of};
+use crate::lookups::{blank_line, groups_in, is_valid, line_of};
 use crate::marks::mark_all;
-use config_table::{Decision, GroupFlags, StateRow, Table, VotedFlags};
-use ftpp_base::{MOST_CYCLES, MOST_GROUPS, Row};
+use crate::votes::CycleFlags;
+use config_table::{Decision, StateRow, Table, VotedFlags};
+use ftpp_base::{MOST_CYCLES, MOST_GROUPS, Row, VidSet};
 use packet_format::Descriptor;
 use sender_choice::{Chooser, IndexChooser};
 use std::marker::Model;
@@ -23,21 +24,19 @@ use std::marker::Model;
 #[derive(Drop)]
 pub struct Scoreboard {
     lines: Row<StateRow, MOST_GROUPS>,
-    /// The groups with a request, the oldest first.
-    chooser: IndexChooser,
 }
 
 impl Model for Scoreboard {
-    ghost use Rattle.std.specs.Prelude.{◌≡◌, List};
+    ghost use Rattle.std.specs.Prelude.{◌≡◌, List, map, true};
     ghost use Rattle.config_table.specs.declared.decisions.StateRow.{StateRow};
-    ghost use Rattle.sender_choice.specs.Pairs.{sinces_of};
-    ghost use Rattle.scoreboard.specs.Steps.{sinces_in};
+    ghost use Rattle.scoreboard.specs.Steps.{ascend};
+    ghost use Rattle.scoreboard.specs.Times.{line_number};
 
     ghost Value = { List StateRow };
 
     ghost view = { λ s. s.lines.items };
 
-    ghost invariant = { λ s. sinces_of s.chooser ≡ sinces_in s.lines.items };
+    ghost invariant = { λ s. ascend 0 (map line_number s.lines.items) ≡ true };
 }
 
 impl Scoreboard {
@@ -50,7 +49,6 @@ impl Scoreboard {
     {
         Scoreboard {
             lines: lines_in(table, &[], None),
-            chooser: IndexChooser::new(),
         }
     }
 
@@ -87,8 +85,9 @@ impl Scoreboard {
         ensures earlier { AreBefore (now + 1) after.new }
         ensures members { OnlyMembersLag table.now after.new }
     {
-        self.mark_into(table, now, flags.as_slice(), after);
-        let decision = after.decide(table, now, flags.as_slice());
+        let flags = CycleFlags::new(flags.as_slice());
+        self.mark_into(table, now, &flags, after);
+        let decision = after.decide(table, now, &flags);
         after.end(&decision);
         decision
     }
@@ -99,31 +98,30 @@ impl Scoreboard {
     {
         Scoreboard {
             lines: Row::new(),
-            chooser: IndexChooser::new(),
         }
     }
 
     /// Writes the scoreboard after the votes of a cycle to `after`, before anything is decided.
-    fn mark_into(&self, table: &Table, now: u32, flags: &[GroupFlags], after: &mut Scoreboard)
+    fn mark_into(&self, table: &Table, now: u32, flags: &CycleFlags<'_>, after: &mut Scoreboard)
         requires cycle { now < MOST_CYCLES }
         requires earlier { AreBefore now self.now }
         ensures after { after.new ≡ marked table.now flags.now now self.now }
         ensures earlier { AreBefore (now + 1) after.new }
     {
         mark_all(table, flags, now, self.lines.as_slice(), &mut after.lines);
-        after.chooser = IndexChooser::new();
-        hold(&mut after.chooser, table, after.lines.as_slice());
     }
 
     /// Decides what is done in the cycle.
     #[tactic(auto, unfolding(crate::specs::Choice::decision_of))]
-    fn decide(&self, table: &Table, now: u32, flags: &[GroupFlags]) -> Decision
+    fn decide(&self, table: &Table, now: u32, flags: &CycleFlags<'_>) -> Decision
         requires { AreBefore (now + 1) self.now }
         ensures { result ≡ decision_of table.now flags.now now self.now }
     {
         let lines = self.lines.as_slice();
-        let eligible = choosable(table, flags, now, lines);
-        match self.chooser.oldest(&eligible) {
+        let mut eligible = VidSet::new();
+        let mut chooser = IndexChooser::new();
+        put_choosable(table, flags, now, lines, &mut eligible, &mut chooser);
+        match chooser.oldest(&eligible) {
             Some((vid, _)) => decided(table, flags, now, lines, vid),
             None => Decision::Idle,
         }
@@ -134,10 +132,7 @@ impl Scoreboard {
         ensures { self.new ≡ after_decision decision.now self.old }
     {
         match taken(decision) {
-            Some(vid) => {
-                end_request(self.lines.as_mut_slice(), vid);
-                self.chooser.clear(vid);
-            }
+            Some(vid) => end_request(self.lines.as_mut_slice(), vid),
             None => {}
         }
     }
@@ -152,7 +147,6 @@ impl Scoreboard {
     {
         let lines = lines_in(table, self.lines.as_slice(), Some(vid));
         self.lines = lines;
-        self.chooser.clear(vid);
     }
 
     /// The request of a group and the cycle since which it waits. None exactly where the group has no request.
@@ -204,8 +198,7 @@ impl Scoreboard {
     {
         let mut lines: Row<StateRow, MOST_GROUPS> = Row::new();
         lines.try_extend_from_slice(rows.as_slice()).unwrap();
-        self.chooser = IndexChooser::new();
-        hold(&mut self.chooser, table, rows.as_slice());
+        is_valid(table);
         self.lines = lines;
     }
 }
@@ -239,20 +232,6 @@ fn end_request(lines: &mut [StateRow], vid: u8)
     for line in lines.iter_mut() {
         if line.vid == vid {
             line.request = None;
-        }
-    }
-}
-
-/// Makes the chooser hold the request of each line since its cycle, and no other.
-fn hold(chooser: &mut IndexChooser, table: &Table, lines: &[StateRow])
-    requires lines { AreLinesOf table.now lines.now }
-    requires known { (vid : ℕ) → is_held (sinces_of chooser.old) vid ≡ true → is_some (group_named table.now vid) ≡ true }
-    ensures { sinces_of chooser.new ≡ sinces_in lines.now }
-{
-    for (place, group) in groups_in(table).iter().enumerate() {
-        match lines[place].request {
-            Some((_, since, _)) => chooser.set(group.vid, since),
-            None => chooser.clear(group.vid),
         }
     }
 }

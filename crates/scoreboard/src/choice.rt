@@ -1,18 +1,23 @@
 //! Which requests may be chosen.
 
-ghost use Rattle.std.specs.Prelude.{◌≡◌, ◌≤◌, ◌<◌, ◌+◌, ℕ, is_none};
+ghost use Rattle.std.specs.Prelude.{◌≡◌, ◌≤◌, ◌<◌, ◌+◌, ℕ, true, false, map, Some, is_some, is_none, IfSome};
 ghost use Rattle.ftpp_base.specs.Vids.{has_vid};
+ghost use Rattle.sender_choice.specs.Sinces.{nothing_held};
+ghost use Rattle.sender_choice.specs.Pairs.{sinces_of};
 ghost use Rattle.config_table.specs.Bounds.{IsBounded};
 ghost use Rattle.config_table.specs.Table.{IsValid, group_named};
+ghost use Rattle.scoreboard.specs.Board.{line_of};
 ghost use Rattle.scoreboard.specs.Choice.{where_true, reason, takes_at, all_take, is_granted, is_ready};
-ghost use Rattle.scoreboard.specs.Steps.{request_from, is_late, can_end, may_be_chosen, is_choosable};
-ghost use Rattle.scoreboard.specs.Times.{AreBefore};
+ghost use Rattle.scoreboard.specs.Steps.{request_from, is_late, can_end, may_be_chosen, is_choosable, sinces_in, ascend};
+ghost use Rattle.scoreboard.specs.Times.{AreBefore, line_number};
 
-use crate::lookups::{flags_named, group_in, groups_in, line_of};
+use crate::lookups::{group_near, groups_in, lag_in, line_near, place_of, request_in};
 use crate::marks::Waiting;
+use crate::votes::CycleFlags;
 use config_table::{Group, GroupFlags, StateRow, Table};
 use ftpp_base::{Proc, VidSet};
 use packet_format::Descriptor;
+use sender_choice::{Chooser, IndexChooser};
 
 /// Why a request is unlawful, 1 to 5, the first reason that holds.
 #[tactic(auto, unfolding(crate::specs::Choice::reason))]
@@ -43,24 +48,37 @@ fn no_group(table: &Table, desc: &Descriptor) -> Option<u8>
     }
 }
 
-/// Whether a live member says not full or lags by more than its group's timeout.
-fn takes_at(group: &Group, one: &GroupFlags, line: &StateRow, index: u8, member: &Proc) -> bool
+/// Whether a live member says not full or lags by more than its group's timeout. The line of the group, whose number is
+/// `vid`, should stand at that place.
+fn takes_at(
+    group: &Group,
+    one: &GroupFlags,
+    lines: &[StateRow],
+    place: usize,
+    vid: u8,
+    index: u8,
+    member: &Proc,
+) -> bool
     requires place { index < 4 }
     requires ne { member.now.ne < 8 }
-    ensures { result ≡ takes_at group.now one.now line.now (index, member.now) }
+    requires order { ascend 0 (map line_number lines.now) ≡ true }
+    ensures { result ≡ takes_at group.now one.now (line_of lines.now vid) (index, member.now) }
 {
-    one.space.has(member.ne) || line.lags[usize::from(index)] > u32::from(group.tr)
+    one.space.has(member.ne)
+        || lag_in(line_near(lines, place, vid), index) > u32::from(group.tr)
 }
 
-/// Whether each live member of a group says not full or lags by more than the timeout.
-fn all_take(group: &Group, one: &GroupFlags, line: &StateRow) -> bool
-    requires { IsBounded 5 group.now }
-    ensures { result ≡ all_take group.now one.now line.now }
+/// Whether each live member of a group says not full or lags by more than the timeout. The line of the group, whose
+/// number is `vid`, should stand at that place.
+fn all_take(group: &Group, one: &GroupFlags, lines: &[StateRow], place: usize, vid: u8) -> bool
+    requires bounded { IsBounded 5 group.now }
+    requires order { ascend 0 (map line_number lines.now) ≡ true }
+    ensures { result ≡ all_take group.now one.now (line_of lines.now vid) }
 {
     let members = group.members.as_slice();
-    for (place, member) in members.iter().enumerate() {
-        let index = place as u8;
-        if group.is_live(index) && !takes_at(group, one, line, index, member) {
+    for (seat, member) in members.iter().enumerate() {
+        let index = seat as u8;
+        if group.is_live(index) && !takes_at(group, one, lines, place, vid, index, member) {
             return false;
         }
     }
@@ -68,11 +86,13 @@ fn all_take(group: &Group, one: &GroupFlags, line: &StateRow) -> bool
 }
 
 /// Whether the group of that number takes a packet now.
-fn is_granted(table: &Table, flags: &[GroupFlags], lines: &[StateRow], vid: u8) -> bool
+fn is_granted(table: &Table, flags: &CycleFlags<'_>, lines: &[StateRow], vid: u8) -> bool
+    requires { ascend 0 (map line_number lines.now) ≡ true }
     ensures { result ≡ is_granted table.now flags.now lines.now vid }
 {
-    match (group_in(table, vid), flags_named(flags, vid)) {
-        (Some(group), Some(one)) => one.most_space && all_take(group, &one, &line_of(lines, vid)),
+    let place = place_of(table, vid);
+    match (group_near(table, place, vid), flags.near(place, vid)) {
+        (Some(group), Some(one)) => one.most_space && all_take(group, one, lines, place, vid),
         _ => false,
     }
 }
@@ -98,11 +118,12 @@ fn is_ready(now: u32, sender: &Group, one: &GroupFlags, waiting: &Waiting) -> bo
 /// Whether a ready request can be served or discarded.
 fn can_end(
     table: &Table,
-    flags: &[GroupFlags],
+    flags: &CycleFlags<'_>,
     lines: &[StateRow],
     sender: &Group,
     waiting: &Waiting,
 ) -> bool
+    requires { ascend 0 (map line_number lines.now) ≡ true }
     ensures { (one : _) → result ≡ can_end table.now flags.now lines.now (request_from sender.now one waiting.now) }
 {
     let (desc, _, starved) = waiting;
@@ -112,40 +133,54 @@ fn can_end(
         || is_expired(table, desc, *starved)
 }
 
-/// Whether the request of a group may be chosen.
+/// Since when the request of a group waits, if it may be chosen.
 #[tactic(auto, unfolding(crate::specs::Choice::is_eligible))]
-fn may_be_chosen(
+fn choosable_since(
     table: &Table,
-    flags: &[GroupFlags],
+    flags: &CycleFlags<'_>,
     now: u32,
     lines: &[StateRow],
+    place: usize,
     group: &Group,
-) -> bool
-    requires { AreBefore (now + 1) lines.now }
-    ensures { result ≡ may_be_chosen table.now flags.now now lines.now group.now }
+) -> Option<u32>
+    requires earlier { AreBefore (now + 1) lines.now }
+    requires order { ascend 0 (map line_number lines.now) ≡ true }
+    ensures chosen { is_some result ≡ may_be_chosen table.now flags.now now lines.now group.now }
+    ensures since { IfSome result (λ since. sinces_in lines.now group.now.vid ≡ Some since) }
 {
-    match (
-        flags_named(flags, group.vid),
-        line_of(lines, group.vid).request,
-    ) {
-        (Some(one), Some(waiting)) => {
-            is_ready(now, group, &one, &waiting) && can_end(table, flags, lines, group, &waiting)
-        }
-        _ => false,
+    let waiting = request_in(line_near(lines, place, group.vid))?;
+    let one = flags.near(place, group.vid)?;
+    if is_ready(now, group, one, &waiting) && can_end(table, flags, lines, group, &waiting) {
+        Some(waiting.1)
+    } else {
+        None
     }
 }
 
-/// The groups whose requests may be chosen.
-pub(crate) fn choosable(table: &Table, flags: &[GroupFlags], now: u32, lines: &[StateRow]) -> VidSet
-    requires { AreBefore (now + 1) lines.now }
-    ensures eligible { (vid : ℕ) → has_vid result vid ≡ is_choosable table.now flags.now now lines.now vid }
+/// Puts the groups whose requests may be chosen into the set, and since when these wait into the chooser.
+pub(crate) fn put_choosable(
+    table: &Table,
+    flags: &CycleFlags<'_>,
+    now: u32,
+    lines: &[StateRow],
+    eligible: &mut VidSet,
+    chooser: &mut IndexChooser,
+)
+    requires earlier { AreBefore (now + 1) lines.now }
+    requires order { ascend 0 (map line_number lines.now) ≡ true }
+    requires none { (vid : ℕ) → has_vid eligible.old vid ≡ false }
+    requires empty { sinces_of chooser.old ≡ nothing_held }
+    ensures eligible { (vid : ℕ) → has_vid eligible.new vid ≡ is_choosable table.now flags.now now lines.now vid }
+    ensures held { (vid : ℕ) → has_vid eligible.new vid ≡ true → sinces_of chooser.new vid ≡ sinces_in lines.now vid }
     ensures valid { IsValid table.now }
 {
-    let mut eligible = VidSet::new();
-    for group in groups_in(table) {
-        if may_be_chosen(table, flags, now, lines, group) {
-            eligible.put(group.vid);
+    for (place, group) in groups_in(table).iter().enumerate() {
+        match choosable_since(table, flags, now, lines, place, group) {
+            Some(since) => {
+                eligible.put(group.vid);
+                chooser.set(group.vid, since);
+            }
+            None => {}
         }
     }
-    eligible
 }

@@ -1,14 +1,15 @@
 //! What is done with the chosen request.
 
-ghost use Rattle.std.specs.Prelude.{◌≡◌, ◌≤◌, ◌+◌, All, option_map, unwrap_or, slice_get};
+ghost use Rattle.std.specs.Prelude.{◌≡◌, ◌≤◌, ◌+◌, All, true, map, option_map, unwrap_or, slice_get};
 ghost use Rattle.config_table.specs.Bounds.{InRange, IsBounded};
 ghost use Rattle.scoreboard.specs.Choice.{kind_of, discard_reason, done_with, decided, request_in};
-ghost use Rattle.scoreboard.specs.Steps.{request_from, request_named, taken};
-ghost use Rattle.scoreboard.specs.Times.{AreBefore};
+ghost use Rattle.scoreboard.specs.Steps.{request_from, request_named, taken, ascend};
+ghost use Rattle.scoreboard.specs.Times.{AreBefore, line_number};
 
 use crate::choice::{is_expired, reason};
-use crate::lookups::{flags_named, group_in, line_of};
+use crate::lookups::{group_near, line_near, place_of, request_in};
 use crate::marks::Waiting;
+use crate::votes::CycleFlags;
 use config_table::{Decision, Group, GroupFlags, Kind, Service, StateRow, Table};
 use ftpp_base::{MOST_ELEMENTS, Ne, Proc};
 use packet_format::Descriptor;
@@ -84,20 +85,22 @@ fn done_with(
 /// What is done with the request of a group, and nothing without one.
 fn decided_for(
     table: &Table,
-    flags: &[GroupFlags],
+    flags: &CycleFlags<'_>,
     now: u32,
     lines: &[StateRow],
+    place: usize,
     sender: &Group,
 ) -> Decision
     requires bounded { IsBounded 5 sender.now }
     requires earlier { AreBefore (now + 1) lines.now }
+    requires order { ascend 0 (map line_number lines.now) ≡ true }
     ensures { result ≡ decided table.now now (request_in flags.now lines.now sender.now) }
 {
     match (
-        flags_named(flags, sender.vid),
-        line_of(lines, sender.vid).request,
+        flags.near(place, sender.vid),
+        request_in(line_near(lines, place, sender.vid)),
     ) {
-        (Some(one), Some(waiting)) => done_with(table, now, sender, &one, &waiting),
+        (Some(one), Some(waiting)) => done_with(table, now, sender, one, &waiting),
         _ => Decision::Idle,
     }
 }
@@ -105,16 +108,18 @@ fn decided_for(
 /// What is done with the request of the group of that number.
 pub(crate) fn decided(
     table: &Table,
-    flags: &[GroupFlags],
+    flags: &CycleFlags<'_>,
     now: u32,
     lines: &[StateRow],
     vid: u8,
 ) -> Decision
-    requires { AreBefore (now + 1) lines.now }
+    requires earlier { AreBefore (now + 1) lines.now }
+    requires order { ascend 0 (map line_number lines.now) ≡ true }
     ensures { result ≡ decided table.now now (request_named table.now flags.now lines.now vid) }
 {
-    match group_in(table, vid) {
-        Some(sender) => decided_for(table, flags, now, lines, sender),
+    let place = place_of(table, vid);
+    match group_near(table, place, vid) {
+        Some(sender) => decided_for(table, flags, now, lines, place, sender),
         None => Decision::Idle,
     }
 }

@@ -1,11 +1,15 @@
-//! The line of a group, and the flags of a group.
+//! The line of a group, the flags of a group, and a group itself. Where it is known at what place one should stand,
+//! that place is looked at first.
 
-ghost use Rattle.std.specs.Prelude.{◌≡◌, ◌≤◌, length, find, All, IfSome, option_copied};
+ghost use Rattle.std.specs.Prelude.{◌≡◌, ◌≤◌, ◌<◌, ℕ, length, find, map, take_while, slice_index, true, All, IfSome, option_copied};
 ghost use Rattle.config_table.specs.Bounds.{IsBounded};
 ghost use Rattle.config_table.specs.Table.{IsValid, group_named};
-ghost use Rattle.scoreboard.specs.Board.{blank_line, is_line_of, line_of, are_flags_of, flags_named};
+ghost use Rattle.scoreboard.specs.Board.{blank_line, is_line_of, line_of};
+ghost use Rattle.scoreboard.specs.Steps.{ascend, is_other_group, line_or};
+ghost use Rattle.scoreboard.specs.Times.{line_number};
 
-use config_table::{Group, GroupFlags, StateRow, Table};
+use crate::marks::Waiting;
+use config_table::{Group, StateRow, Table};
 use ftpp_base::MOST_GROUPS;
 
 /// The line of a group without a request.
@@ -26,13 +30,6 @@ fn line_named(lines: &[StateRow], vid: u8) -> Option<&StateRow>
     lines.iter().find(|line| line.vid == vid)
 }
 
-/// The flags of that number, if there are any.
-fn flags_by_number(flags: &[GroupFlags], vid: u8) -> Option<&GroupFlags>
-    ensures { option_copied result ≡ find (are_flags_of vid) flags.now }
-{
-    flags.iter().find(|one| one.vid == vid)
-}
-
 /// The line of a group, blank where it has none.
 pub(crate) fn line_of(lines: &[StateRow], vid: u8) -> StateRow
     ensures { result ≡ line_of lines.now vid }
@@ -43,13 +40,41 @@ pub(crate) fn line_of(lines: &[StateRow], vid: u8) -> StateRow
     }
 }
 
-/// The flags of a group. None where it has none.
-pub(crate) fn flags_named(flags: &[GroupFlags], vid: u8) -> Option<GroupFlags>
-    ensures { result ≡ flags_named flags.now vid }
+/// The line of that number, in lines whose numbers ascend. It should stand at that place.
+pub(crate) fn line_near(lines: &[StateRow], place: usize, vid: u8) -> Option<&StateRow>
+    requires { ascend 0 (map line_number lines.now) ≡ true }
+    ensures { option_copied result ≡ find (is_line_of vid) lines.now }
 {
-    match flags_by_number(flags, vid) {
-        Some(one) => Some(*one),
-        None => None,
+    match lines.get(place) {
+        Some(line) if line.vid == vid => Some(line),
+        _ => line_far(lines, vid),
+    }
+}
+
+/// The same, where it stands elsewhere.
+#[cold]
+#[inline(never)]
+fn line_far(lines: &[StateRow], vid: u8) -> Option<&StateRow>
+    ensures { option_copied result ≡ find (is_line_of vid) lines.now }
+{
+    line_named(lines, vid)
+}
+
+/// The request of a line, and none where there is no line.
+pub(crate) fn request_in(line: Option<&StateRow>) -> Option<Waiting>
+    ensures { (vid : ℕ) → result ≡ (line_or (option_copied line.entry) vid).request }
+{
+    line?.request
+}
+
+/// A lag of a line, and 0 where there is no line.
+pub(crate) fn lag_in(line: Option<&StateRow>, index: u8) -> u32
+    requires { index < 4 }
+    ensures { (vid : ℕ) → result ≡ slice_index (line_or (option_copied line.entry) vid).lags index }
+{
+    match line {
+        Some(line) => line.lags[usize::from(index)],
+        None => 0,
     }
 }
 
@@ -63,10 +88,40 @@ pub(crate) fn groups_in(table: &Table) -> &[Group]
     table.groups()
 }
 
-/// The group of that number, with members at five elements at most.
-pub(crate) fn group_in(table: &Table, vid: u8) -> Option<&Group>
+/// Every table is valid. This says so, and does nothing.
+pub(crate) fn is_valid(table: &Table)
+    ensures { IsValid table.now }
+{
+    let _groups = table.groups();
+}
+
+/// The group of that number, with members at five elements at most. It is searched for, which `group_near` seldom needs.
+#[cold]
+#[inline(never)]
+fn group_in(table: &Table, vid: u8) -> Option<&Group>
     ensures group { option_copied result ≡ group_named table.now vid }
     ensures bounded { IfSome result (λ group. IsBounded 5 group.now) }
 {
     table.group(vid)
+}
+
+/// The same, which should stand at that place.
+pub(crate) fn group_near(table: &Table, place: usize, vid: u8) -> Option<&Group>
+    ensures group { option_copied result ≡ group_named table.now vid }
+    ensures bounded { IfSome result (λ group. IsBounded 5 group.now) }
+{
+    match groups_in(table).get(place) {
+        Some(group) if group.vid == vid => Some(group),
+        _ => group_in(table, vid),
+    }
+}
+
+/// The place of the group of that number in the table, past its end where there is none.
+pub(crate) fn place_of(table: &Table, vid: u8) -> usize
+    ensures { result ≡ length (take_while (is_other_group vid) table.now.groups) }
+{
+    groups_in(table)
+        .iter()
+        .take_while(|group| group.vid != vid)
+        .count()
 }

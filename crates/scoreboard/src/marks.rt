@@ -1,11 +1,13 @@
 //! The lines after the pattern of one cycle, before a request is chosen.
 
-ghost use Rattle.std.specs.Prelude.{◌≡◌, ◌<◌, ◌≤◌, ℕ, Some, slice_index};
+ghost use Rattle.std.specs.Prelude.{◌≡◌, ◌<◌, ◌≤◌, ◌+◌, ◌&&◌, ◌||◌, ℕ, Some, map, true, option_copied, slice_index, if◌then◌else◌};
 ghost use Rattle.config_table.specs.Bounds.{IsBounded};
-ghost use Rattle.scoreboard.specs.Board.{Waiting, lacks_space, waiting_since, request_after, says_full, lag_after, lags_after, line_after, marked};
-ghost use Rattle.scoreboard.specs.Times.{IsBefore, AreBefore};
+ghost use Rattle.scoreboard.specs.Board.{Waiting, lacks_space, waiting_since, request_after, says_full, lags_after, line_after, marked};
+ghost use Rattle.scoreboard.specs.Steps.{ascend, line_or};
+ghost use Rattle.scoreboard.specs.Times.{IsBefore, AreBefore, line_number};
 
-use crate::lookups::{blank_line, flags_named, groups_in, line_of};
+use crate::lookups::{blank_line, groups_in, lag_in, line_near, request_in};
+use crate::votes::CycleFlags;
 use config_table::{Group, GroupFlags, StateRow, Table};
 use ftpp_base::{MOST_CYCLES, MOST_GROUPS, Row};
 use packet_format::Descriptor;
@@ -14,11 +16,11 @@ use packet_format::Descriptor;
 pub(crate) type Waiting = (Descriptor, u32, u32);
 
 /// Whether the request is of class 1 or 2 to a group that has no most space.
-fn lacks_space(flags: &[GroupFlags], desc: &Descriptor) -> bool
+fn lacks_space(flags: &CycleFlags<'_>, desc: &Descriptor) -> bool
     ensures { result ≡ lacks_space flags.now desc.now }
 {
     if desc.class == 1 || desc.class == 2 {
-        match flags_named(flags, desc.dest) {
+        match flags.named(desc.dest) {
             Some(one) => !one.most_space,
             None => false,
         }
@@ -40,20 +42,21 @@ fn waiting_since(starves: bool, now: u32, desc: &Descriptor, before: Option<Wait
     }
 }
 
-/// The request of a line after one pattern: gone without a voted request.
+/// The request of a group after one pattern, by its line: gone without a voted request.
 fn request_after(
-    flags: &[GroupFlags],
+    flags: &CycleFlags<'_>,
     now: u32,
-    before: Option<Waiting>,
+    vid: u8,
+    line: Option<&StateRow>,
     desc: Option<Descriptor>,
 ) -> Option<Waiting>
-    requires { (w : Waiting) → before ≡ Some w → w.2 < MOST_CYCLES }
-    ensures { result ≡ request_after flags.now now before desc }
+    requires { (w : Waiting) → (line_or (option_copied line) vid).request ≡ Some w → w.2 < MOST_CYCLES }
+    ensures { result ≡ request_after flags.now now (line_or (option_copied line.entry) vid).request desc }
 {
     match desc {
         Some(desc) => {
             let starves = lacks_space(flags, &desc);
-            Some(waiting_since(starves, now, &desc, before))
+            Some(waiting_since(starves, now, &desc, request_in(line)))
         }
         None => None,
     }
@@ -74,52 +77,67 @@ fn says_full(group: &Group, one: &GroupFlags, index: u8) -> bool
     }
 }
 
+/// Whether a group has most space while some member is live and says full.
+fn some_lag(group: &Group, one: &GroupFlags) -> bool
+    requires { IsBounded 5 group.now }
+    ensures { result ≡ (one.now.most_space && (says_full group.now one.now 0 || says_full group.now one.now 1 || says_full group.now one.now 2 || says_full group.now one.now 3)) }
+{
+    one.most_space
+        && (says_full(group, one, 0)
+            || says_full(group, one, 1)
+            || says_full(group, one, 2)
+            || says_full(group, one, 3))
+}
+
 /// The lag of a member after one pattern: it rises where the member says full while its group has most space.
-fn lag_after(group: &Group, one: &GroupFlags, lags: &[u32; 4], index: u8) -> u32
+fn lag_after(group: &Group, one: &GroupFlags, lag: u32, index: u8) -> u32
     requires bounded { IsBounded 5 group.now }
-    requires small { slice_index lags.now index < MOST_CYCLES }
-    requires index { index < 4 }
-    ensures { result ≡ lag_after group.now one.now lags.now index }
+    requires small { lag < MOST_CYCLES }
+    ensures { result ≡ (if one.now.most_space && says_full group.now one.now index then lag + 1 else 0) }
 {
     if one.most_space && says_full(group, one, index) {
-        lags[usize::from(index)] + 1
+        lag + 1
     } else {
         0
     }
 }
 
-/// The lags of a group's members after one pattern.
-fn lags_after(group: &Group, one: &GroupFlags, lags: &[u32; 4]) -> [u32; 4]
+/// The lags of a group's members after one pattern, by its line.
+fn lags_after(group: &Group, one: &GroupFlags, line: Option<&StateRow>) -> [u32; 4]
     requires bounded { IsBounded 5 group.now }
-    requires small { (index : ℕ) → slice_index lags.now index < MOST_CYCLES }
-    ensures { result ≡ lags_after group.now one.now lags.now }
+    requires small { (index : ℕ) → slice_index (line_or (option_copied line) group.now.vid).lags index < MOST_CYCLES }
+    ensures { result ≡ lags_after group.now one.now (line_or (option_copied line.entry) group.now.vid).lags }
 {
-    [
-        lag_after(group, one, lags, 0),
-        lag_after(group, one, lags, 1),
-        lag_after(group, one, lags, 2),
-        lag_after(group, one, lags, 3),
-    ]
+    if some_lag(group, one) {
+        [
+            lag_after(group, one, lag_in(line, 0), 0),
+            lag_after(group, one, lag_in(line, 1), 1),
+            lag_after(group, one, lag_in(line, 2), 2),
+            lag_after(group, one, lag_in(line, 3), 3),
+        ]
+    } else {
+        [0; 4]
+    }
 }
 
-/// A group's line after one pattern.
+/// A group's line after one pattern, by its line before.
 fn line_after(
-    flags: &[GroupFlags],
+    flags: &CycleFlags<'_>,
     now: u32,
     group: &Group,
-    line: &StateRow,
-    one: Option<GroupFlags>,
+    line: Option<&StateRow>,
+    one: Option<&GroupFlags>,
 ) -> StateRow
     requires cycle { now < MOST_CYCLES }
     requires bounded { IsBounded 5 group.now }
-    requires earlier { IsBefore now line.now }
-    ensures { result ≡ line_after flags.now now group.now line.now one }
+    requires earlier { IsBefore now (line_or (option_copied line) group.now.vid) }
+    ensures { result ≡ line_after flags.now now group.now (line_or (option_copied line.entry) group.now.vid) (option_copied one.entry) }
 {
     match one {
         Some(one) => StateRow {
             vid: group.vid,
-            request: request_after(flags, now, line.request, one.desc),
-            lags: lags_after(group, &one, &line.lags),
+            request: request_after(flags, now, group.vid, line, one.desc),
+            lags: lags_after(group, one, line),
         },
         None => blank_line(group.vid),
     }
@@ -129,18 +147,21 @@ fn line_after(
 #[tactic(auto, unfolding(crate::specs::Board::marked))]
 pub(crate) fn mark_all(
     table: &Table,
-    flags: &[GroupFlags],
+    flags: &CycleFlags<'_>,
     now: u32,
     lines: &[StateRow],
     after: &mut Row<StateRow, MOST_GROUPS>,
 )
     requires cycle { now < MOST_CYCLES }
     requires earlier { AreBefore now lines.now }
-    ensures { after.new.items ≡ marked table.now flags.now now lines.now }
+    requires order { ascend 0 (map line_number lines.now) ≡ true }
+    ensures lines { after.new.items ≡ marked table.now flags.now now lines.now }
+    ensures order { ascend 0 (map line_number after.new.items) ≡ true }
 {
     after.clear();
-    for group in groups_in(table) {
-        let line = line_of(lines, group.vid);
-        after.push(line_after(flags, now, group, &line, flags_named(flags, group.vid)));
+    for (place, group) in groups_in(table).iter().enumerate() {
+        let line = line_near(lines, place, group.vid);
+        let one = flags.near(place, group.vid);
+        after.push(line_after(flags, now, group, line, one));
     }
 }

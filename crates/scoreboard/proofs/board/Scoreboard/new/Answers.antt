@@ -1,13 +1,15 @@
-use Rattle.std.proofs.Common.{sym, ◌∙◌, ap, subst}
+use Rattle.std.proofs.Common.{sym, subst}
 use Rattle.scoreboard.specs.Board.{Scoreboard}
-use Rattle.scoreboard.specs.Steps.{sinces_in}
 use Rattle.scoreboard.specs.Times.{AreBefore, AreLinesOf, OnlyMembersLag}
-use Rattle.scoreboard.proofs.Kept.{sinces_empty, before_empty, lines_empty}
+use Rattle.scoreboard.proofs.Kept.{before_empty, lines_empty}
 use Rattle.scoreboard.proofs.MemberLags.{members_empty}
+use Rattle.scoreboard.proofs.Order.{lines_ascend}
 use Rattle.scoreboard.proofs.board.Scoreboard.new.Goals as goal
 
 pub invariant_of-result : goal.invariant_of-result
-invariant_of-result c = c.new.ensures ∙ sinces_empty c.args.table.now ∙ ap sinces_in (sym c.lines_in.ensures.lines)
+invariant_of-result c =
+    let P : Scoreboard → Type 0 = λ board. AreLinesOf c.args.table.now board in
+    lines_ascend c.args.table.now c.lines_in.result.items c.lines_in.ensures.valid (subst P (sym c.lines_in.ensures.lines) (lines_empty c.args.table.now))
 
 pub returns-clause-lines : goal.returns-clause-lines
 returns-clause-lines c = let P : Scoreboard → Type 0 = λ board. AreLinesOf c.args.table.now board in subst P (sym c.lines_in.ensures.lines) (lines_empty c.args.table.now)

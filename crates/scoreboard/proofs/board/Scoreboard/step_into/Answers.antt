@@ -12,7 +12,7 @@ returns-clause-lines c =
     let P : Scoreboard → Type 0 = λ board. AreLinesOf c.args.table.now board in
     subst P (sym c.end.ensures)
     (lines_decision c.args.table.now c.decide-decision.result c.mark_into.new.after
-    (subst P (sym c.mark_into.ensures.after) (lines_marked c.args.table.now c.as_slice.result.now c.args.now c.args.self.now)))
+    (subst P (sym c.mark_into.ensures.after) (lines_marked c.args.table.now c.new-flags.result c.args.now c.args.self.now)))
 
 pub returns-clause-earlier : goal.returns-clause-earlier
 returns-clause-earlier c =
@@ -23,8 +23,9 @@ pub returns-clause-members : goal.returns-clause-members
 returns-clause-members c =
     let table = c.args.table.now in
     let P : Scoreboard → Type 0 = λ board. OnlyMembersLag table board in
+    let flags : c.new-flags.result ≡ c.args.flags.now.items = c.new-flags.ensures ∙ c.as_slice.ensures.value in
     let lines : c.mark_into.new.after ≡ marked table c.args.flags.now.items c.args.now c.args.self.now =
-    c.mark_into.ensures.after ∙ ap (λ (flags : List GroupFlags). marked table flags c.args.now c.args.self.now) c.as_slice.ensures.value in
+    c.mark_into.ensures.after ∙ ap (λ (given : List GroupFlags). marked table given c.args.now c.args.self.now) flags in
     let decision : c.decide-decision.result ≡ scoreboard_decision table c.args.now c.args.flags.now.items c.args.self.now =
-    c.decide-decision.ensures ∙ (λ i. decision_of table (c.as_slice-2.ensures.value i) c.args.now (lines i)) in
+    c.decide-decision.ensures ∙ (λ i. decision_of table (flags i) c.args.now (lines i)) in
     subst P (sym (c.end.ensures ∙ (λ i. after_decision (decision i) (lines i)))) (members_step table c.args.now c.args.flags.now.items c.args.self.now)
