@@ -47,6 +47,10 @@ pub found_near : {A : Type 0} (number : A → ℕ) (p : A → Bool) (xs : List A
 found_near number p xs k vid x is up within at named =
     found_at number p xs 0 k vid x is up (slice_get-get_or xs k x (ltb-true k (length xs) (sym within)) ∙ ap Some (sym at)) named
 
+-- no place is within an empty list
+pub none_near : {A : Type 0} (xs : List A) (k : ℕ) → xs ≡ [] → true ≡ nat_lt k (length xs) → ⊥
+none_near xs k none within = let low = ltb-true k (length xs) (sym within) in let width = ap (λ (ys : List _). length ys) none in omega arith
+
 -- ---- the numbers of a valid table
 
 -- groups whose numbers are no less than one, and ascend

@@ -96,9 +96,7 @@ impl Scoreboard {
     fn blank() -> Scoreboard
         ensures { result ≡ [] }
     {
-        Scoreboard {
-            lines: Row::new(),
-        }
+        Scoreboard { lines: Row::new() }
     }
 
     /// Writes the scoreboard after the votes of a cycle to `after`, before anything is decided.

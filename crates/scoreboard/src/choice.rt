@@ -19,14 +19,14 @@ use ftpp_base::{Proc, VidSet};
 use packet_format::Descriptor;
 use sender_choice::{Chooser, IndexChooser};
 
-/// Why a request is unlawful, 1 to 5, the first reason that holds.
+/// Why a request is unlawful, 1 to 5, the first reason that holds. Its destination should stand at that place.
 #[tactic(auto, unfolding(crate::specs::Choice::reason))]
-pub(crate) fn reason(table: &Table, sender: &Group, desc: &Descriptor) -> Option<u8>
+pub(crate) fn reason(table: &Table, sender: &Group, desc: &Descriptor, place: usize) -> Option<u8>
     ensures { result ≡ reason table.now sender.now desc.now }
 {
     match desc.class {
-        1 => no_group(table, desc),
-        2 => match no_group(table, desc) {
+        1 => no_group(table, desc, place),
+        2 => match no_group(table, desc, place) {
             Some(number) => Some(number),
             None if !sender.is_live(desc.source) => Some(3),
             None => None,
@@ -39,10 +39,10 @@ pub(crate) fn reason(table: &Table, sender: &Group, desc: &Descriptor) -> Option
 }
 
 /// The reason of a request to a number that names no group.
-fn no_group(table: &Table, desc: &Descriptor) -> Option<u8>
+fn no_group(table: &Table, desc: &Descriptor, place: usize) -> Option<u8>
     ensures { result ≡ where_true (is_none (group_named table.now desc.now.dest)) 2 }
 {
-    match table.group(desc.dest) {
+    match group_near(table, place, desc.dest) {
         Some(_) => None,
         None => Some(2),
     }
@@ -64,8 +64,7 @@ fn takes_at(
     requires order { ascend 0 (map line_number lines.now) ≡ true }
     ensures { result ≡ takes_at group.now one.now (line_of lines.now vid) (index, member.now) }
 {
-    one.space.has(member.ne)
-        || lag_in(line_near(lines, place, vid), index) > u32::from(group.tr)
+    one.space.has(member.ne) || lag_in(line_near(lines, place, vid), index) > u32::from(group.tr)
 }
 
 /// Whether each live member of a group says not full or lags by more than the timeout. The line of the group, whose
@@ -85,23 +84,28 @@ fn all_take(group: &Group, one: &GroupFlags, lines: &[StateRow], place: usize, v
     true
 }
 
-/// Whether the group of that number takes a packet now.
-fn is_granted(table: &Table, flags: &CycleFlags<'_>, lines: &[StateRow], vid: u8) -> bool
+/// Whether the group of that number, which should stand at that place, takes a packet now.
+fn is_granted(
+    table: &Table,
+    flags: &CycleFlags<'_>,
+    lines: &[StateRow],
+    place: usize,
+    vid: u8,
+) -> bool
     requires { ascend 0 (map line_number lines.now) ≡ true }
     ensures { result ≡ is_granted table.now flags.now lines.now vid }
 {
-    let place = place_of(table, vid);
     match (group_near(table, place, vid), flags.near(place, vid)) {
         (Some(group), Some(one)) => one.most_space && all_take(group, one, lines, place, vid),
         _ => false,
     }
 }
 
-/// Whether a request has waited too long for a group that has no most space.
-pub(crate) fn is_expired(table: &Table, desc: &Descriptor, starved: u32) -> bool
+/// Whether a request has waited too long for a group that has no most space. The group should stand at that place.
+pub(crate) fn is_expired(table: &Table, desc: &Descriptor, starved: u32, place: usize) -> bool
     ensures { result ≡ is_late (group_named table.now desc.now.dest) starved }
 {
-    match table.group(desc.dest) {
+    match group_near(table, place, desc.dest) {
         Some(group) => group.tx > 0 && starved > u32::from(group.tx),
         None => false,
     }
@@ -127,10 +131,11 @@ fn can_end(
     ensures { (one : _) → result ≡ can_end table.now flags.now lines.now (request_from sender.now one waiting.now) }
 {
     let (desc, _, starved) = waiting;
-    reason(table, sender, desc).is_some()
+    let place = place_of(table, desc.dest);
+    reason(table, sender, desc, place).is_some()
         || desc.class == 3
-        || is_granted(table, flags, lines, desc.dest)
-        || is_expired(table, desc, *starved)
+        || is_granted(table, flags, lines, place, desc.dest)
+        || is_expired(table, desc, *starved, place)
 }
 
 /// Since when the request of a group waits, if it may be chosen.

@@ -45,9 +45,11 @@ fn kind_of(sender: &Group, desc: &Descriptor) -> Kind
 fn discard_reason(table: &Table, sender: &Group, waiting: &Waiting) -> Option<u8>
     ensures { (one : _) → result ≡ discard_reason table.now (request_from sender.now one waiting.now) }
 {
-    match reason(table, sender, &waiting.0) {
+    let (desc, _, starved) = waiting;
+    let place = place_of(table, desc.dest);
+    match reason(table, sender, desc, place) {
         Some(number) => Some(number),
-        None if is_expired(table, &waiting.0, waiting.2) => Some(6),
+        None if is_expired(table, desc, *starved, place) => Some(6),
         None => None,
     }
 }

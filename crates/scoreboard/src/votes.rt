@@ -12,12 +12,12 @@ use std::marker::Model;
 #[derive(Drop)]
 pub(crate) struct CycleFlags<'a> {
     flags: &'a [GroupFlags],
-    /// Whether the numbers ascend.
-    ordered: bool,
+    /// The same where the numbers ascend, and none where they do not.
+    placed: &'a [GroupFlags],
 }
 
 impl<'a> Model for CycleFlags<'a> {
-    ghost use Rattle.std.specs.Prelude.{◌≡◌, List, map};
+    ghost use Rattle.std.specs.Prelude.{◌≡◌, ◌⊎◌, List, [], map, true};
     ghost use Rattle.config_table.specs.declared.decisions.GroupFlags.{GroupFlags};
     ghost use Rattle.scoreboard.specs.Steps.{ascend, flags_number};
 
@@ -25,7 +25,7 @@ impl<'a> Model for CycleFlags<'a> {
 
     ghost view = { λ v. v.flags.now };
 
-    ghost invariant = { λ v. v.ordered ≡ ascend 0 (map flags_number v.flags.now) };
+    ghost invariant = { λ v. (ascend 0 (map flags_number v.placed.now) ≡ true) × ((v.placed.now ≡ v.flags.now) ⊎ (v.placed.now ≡ [])) };
 }
 
 impl<'a> CycleFlags<'a> {
@@ -33,9 +33,16 @@ impl<'a> CycleFlags<'a> {
     pub(crate) fn new(flags: &'a [GroupFlags]) -> CycleFlags<'a>
         ensures { result ≡ flags.now }
     {
-        CycleFlags {
-            flags,
-            ordered: are_ordered(flags),
+        if are_ordered(flags) {
+            CycleFlags {
+                flags,
+                placed: flags,
+            }
+        } else {
+            CycleFlags {
+                flags,
+                placed: &flags[..0],
+            }
         }
     }
 
@@ -50,8 +57,8 @@ impl<'a> CycleFlags<'a> {
     pub(crate) fn near(&self, place: usize, vid: u8) -> Option<&GroupFlags>
         ensures { option_copied result ≡ flags_named self.now vid }
     {
-        match self.flags.get(place) {
-            Some(one) if self.ordered && one.vid == vid => Some(one),
+        match self.placed.get(place) {
+            Some(one) if one.vid == vid => Some(one),
             _ => self.far(vid),
         }
     }
@@ -72,7 +79,7 @@ fn are_ordered(flags: &[GroupFlags]) -> bool
 {
     let mut least = 0;
     for one in flags {
-        let number = u16::from(one.vid);
+        let number = u32::from(one.vid);
         if number < least {
             return false;
         }
