@@ -10,8 +10,7 @@ use Rattle.config_table.specs.declared.decisions.GroupFlags.{GroupFlags}
 use Rattle.config_table.specs.Table.{TableValue, IsValid, group_named}
 use Rattle.config_table.proofs.ValidTable.{named-itself, named-there}
 use Rattle.sender_choice.specs.Sinces.{Sinces, is_held, nothing_held, with_since}
-use Rattle.scoreboard.specs.Board.{Scoreboard, Waiting, line_of, flags_named}
-use Rattle.scoreboard.specs.Choice.{is_eligible, request_by}
+use Rattle.scoreboard.specs.Board.{Scoreboard}
 use Rattle.scoreboard.specs.Steps.{may_be_chosen, is_choosable, sinces_in}
 use Rattle.scoreboard.proofs.Holding.{AreKnown, known_with}
 
@@ -140,16 +139,3 @@ choose_same table flags now board k old new held after g h l at out same next = 
   since = λ vid e. ap (λ s. s vid) next ∙ h.since vid (sym (ap (λ s. has_vid s vid) same) ∙ e);
   known = λ vid e. h.known vid (sym (ap (λ s. is_held s vid) next) ∙ e);
 }
-
--- ---- a group without a request
-
--- it may not be chosen
-none_by : (o : Option GroupFlags) (w : Option Waiting) (table : TableValue) (flags : List GroupFlags) (now : ℕ) (board : Scoreboard) (g : Group) → w ≡ None
-    → unwrap_or (option_map (is_eligible table flags board now) (request_by g o w)) false ≡ false
-none_by None w table flags now board g e = refl
-none_by (Some one) None table flags now board g e = refl
-none_by (Some one) (Some w) table flags now board g e = cc
-
-pub no_request : (table : TableValue) (flags : List GroupFlags) (now : ℕ) (board : Scoreboard) (g : Group) → (line_of board g.vid).request ≡ None
-    → may_be_chosen table flags now board g ≡ false
-no_request table flags now board g none = none_by (flags_named flags g.vid) (line_of board g.vid).request table flags now board g none

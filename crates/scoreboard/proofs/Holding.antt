@@ -1,6 +1,6 @@
 -- Which groups a chooser holds: only those of a table, for which there is room.
 use Rattle.std.proofs.Common.{◌≡◌, ℕ, Bool, true, false, cond, List, [], ◌∷◌, map, refl, ap, ◌∙◌, arith, subst, Contains}
-use Rattle.std.specs.Prelude.{Option, Some, None, option_map, is_some, find, ◌==◌}
+use Rattle.std.specs.Prelude.{Option, Some, None, is_some, find, ◌==◌}
 use Rattle.std.proofs.lemmas.List.{length-map}
 use Rattle.std.proofs.lemmas.Bool.{eqb-true}
 use Rattle.sender_choice.specs.Sinces.{Sinces, is_held, with_since, HasRoomFor}
@@ -13,10 +13,6 @@ use Rattle.config_table.proofs.Bounded.{few_groups}
 use Rattle.scoreboard.specs.Board.{is_line_of}
 use Rattle.scoreboard.specs.Times.{line_number, group_number}
 use Rattle.scoreboard.proofs.FewHeld.{room_among}
-
--- since when the request of a line waits
-abbrev pub since_of : StateRow → Option ℕ
-since_of line = option_map (λ w. w.1) line.request
 
 -- a line for each group, in order
 abbrev SameNumbers : List Group → List StateRow → Type 0

@@ -10,10 +10,6 @@ use Rattle.config_table.specs.Table.{TableValue, group_named}
 use Rattle.scoreboard.specs.Board.{Scoreboard, Waiting, blank_line, line_of}
 use Rattle.scoreboard.specs.Choice.{Request, reason, is_granted, is_expired, is_eligible, request_in}
 
--- the line that was found, or the blank one
-abbrev pub line_or : Option StateRow → ℕ → StateRow
-line_or line vid = unwrap_or line (blank_line vid)
-
 -- whether numbers ascend, the first no less than a least one
 abbrev pub ascend : ℕ → List ℕ → Bool
 ascend least [] = true

@@ -11,7 +11,7 @@ ghost use Rattle.scoreboard.specs.Choice.{where_true, reason, takes_at, all_take
 ghost use Rattle.scoreboard.specs.Steps.{request_from, is_late, can_end, may_be_chosen, is_choosable, sinces_in, ascend};
 ghost use Rattle.scoreboard.specs.Times.{AreBefore, line_number};
 
-use crate::lookups::{group_near, groups_in, lag_in, line_near, place_of, request_in};
+use crate::lookups::{group_near, groups_in, lag_near, place_of, request_near};
 use crate::marks::Waiting;
 use crate::votes::CycleFlags;
 use config_table::{Group, GroupFlags, StateRow, Table};
@@ -64,7 +64,7 @@ fn takes_at(
     requires order { ascend 0 (map line_number lines.now) ≡ true }
     ensures { result ≡ takes_at group.now one.now (line_of lines.now vid) (index, member.now) }
 {
-    one.space.has(member.ne) || lag_in(line_near(lines, place, vid), index) > u32::from(group.tr)
+    one.space.has(member.ne) || lag_near(lines, place, vid, index) > u32::from(group.tr)
 }
 
 /// Whether each live member of a group says not full or lags by more than the timeout. The line of the group, whose
@@ -153,7 +153,7 @@ fn choosable_since(
     ensures chosen { is_some result ≡ may_be_chosen table.now flags.now now lines.now group.now }
     ensures since { IfSome result (λ since. sinces_in lines.now group.now.vid ≡ Some since) }
 {
-    let waiting = request_in(line_near(lines, place, group.vid))?;
+    let waiting = request_near(lines, place, group.vid)?;
     let one = flags.near(place, group.vid)?;
     if is_ready(now, group, one, &waiting) && can_end(table, flags, lines, group, &waiting) {
         Some(waiting.1)

@@ -7,7 +7,7 @@ ghost use Rattle.scoreboard.specs.Steps.{request_from, request_named, taken, asc
 ghost use Rattle.scoreboard.specs.Times.{AreBefore, line_number};
 
 use crate::choice::{is_expired, reason};
-use crate::lookups::{group_near, line_near, place_of, request_in};
+use crate::lookups::{group_near, place_of, request_near};
 use crate::marks::Waiting;
 use crate::votes::CycleFlags;
 use config_table::{Decision, Group, GroupFlags, Kind, Service, StateRow, Table};
@@ -100,7 +100,7 @@ fn decided_for(
 {
     match (
         flags.near(place, sender.vid),
-        request_in(line_near(lines, place, sender.vid)),
+        request_near(lines, place, sender.vid),
     ) {
         (Some(one), Some(waiting)) => done_with(table, now, sender, one, &waiting),
         _ => Decision::Idle,

@@ -1,11 +1,11 @@
 //! The line of a group, the flags of a group, and a group itself. Where it is known at what place one should stand,
 //! that place is looked at first.
 
-ghost use Rattle.std.specs.Prelude.{◌≡◌, ◌≤◌, ◌<◌, ℕ, length, find, map, take_while, slice_index, true, All, IfSome, option_copied};
+ghost use Rattle.std.specs.Prelude.{◌≡◌, ◌≤◌, ◌<◌, length, find, map, take_while, true, All, IfSome, option_copied};
 ghost use Rattle.config_table.specs.Bounds.{IsBounded};
 ghost use Rattle.config_table.specs.Table.{IsValid, group_named};
-ghost use Rattle.scoreboard.specs.Board.{blank_line, is_line_of, line_of};
-ghost use Rattle.scoreboard.specs.Steps.{ascend, is_other_group, line_or};
+ghost use Rattle.scoreboard.specs.Board.{blank_line, is_line_of, line_of, lag_of};
+ghost use Rattle.scoreboard.specs.Steps.{ascend, is_other_group};
 ghost use Rattle.scoreboard.specs.Times.{line_number};
 
 use crate::marks::Waiting;
@@ -41,7 +41,7 @@ pub(crate) fn line_of(lines: &[StateRow], vid: u8) -> StateRow
 }
 
 /// The line of that number, in lines whose numbers ascend. It should stand at that place.
-pub(crate) fn line_near(lines: &[StateRow], place: usize, vid: u8) -> Option<&StateRow>
+fn line_near(lines: &[StateRow], place: usize, vid: u8) -> Option<&StateRow>
     requires { ascend 0 (map line_number lines.now) ≡ true }
     ensures { option_copied result ≡ find (is_line_of vid) lines.now }
 {
@@ -60,19 +60,24 @@ fn line_far(lines: &[StateRow], vid: u8) -> Option<&StateRow>
     line_named(lines, vid)
 }
 
-/// The request of a line, and none where there is no line.
-pub(crate) fn request_in(line: Option<&StateRow>) -> Option<Waiting>
-    ensures { (vid : ℕ) → result ≡ (line_or (option_copied line.entry) vid).request }
+/// The request of a group, whose line should stand at that place.
+pub(crate) fn request_near(lines: &[StateRow], place: usize, vid: u8) -> Option<Waiting>
+    requires { ascend 0 (map line_number lines.now) ≡ true }
+    ensures { result ≡ (line_of lines.now vid).request }
 {
-    line?.request
+    match line_near(lines, place, vid) {
+        Some(line) => line.request,
+        None => None,
+    }
 }
 
-/// A lag of a line, and 0 where there is no line.
-pub(crate) fn lag_in(line: Option<&StateRow>, index: u8) -> u32
-    requires { index < 4 }
-    ensures { (vid : ℕ) → result ≡ slice_index (line_or (option_copied line.entry) vid).lags index }
+/// A lag of a group, whose line should stand at that place.
+pub(crate) fn lag_near(lines: &[StateRow], place: usize, vid: u8, index: u8) -> u32
+    requires order { ascend 0 (map line_number lines.now) ≡ true }
+    requires index { index < 4 }
+    ensures { result ≡ lag_of lines.now vid index }
 {
-    match line {
+    match line_near(lines, place, vid) {
         Some(line) => line.lags[usize::from(index)],
         None => 0,
     }

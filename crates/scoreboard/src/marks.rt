@@ -2,11 +2,11 @@
 
 ghost use Rattle.std.specs.Prelude.{◌≡◌, ◌<◌, ◌≤◌, ◌+◌, ◌&&◌, ◌||◌, ℕ, Some, map, true, option_copied, slice_index, if◌then◌else◌};
 ghost use Rattle.config_table.specs.Bounds.{IsBounded};
-ghost use Rattle.scoreboard.specs.Board.{Waiting, lacks_space, waiting_since, request_after, says_full, lags_after, line_after, marked};
-ghost use Rattle.scoreboard.specs.Steps.{ascend, line_or};
+ghost use Rattle.scoreboard.specs.Board.{Waiting, line_of, lacks_space, waiting_since, request_after, says_full, lags_after, line_after, marked};
+ghost use Rattle.scoreboard.specs.Steps.{ascend};
 ghost use Rattle.scoreboard.specs.Times.{IsBefore, AreBefore, line_number};
 
-use crate::lookups::{blank_line, groups_in, lag_in, line_near, request_in};
+use crate::lookups::{blank_line, groups_in, lag_near, request_near};
 use crate::votes::CycleFlags;
 use config_table::{Group, GroupFlags, StateRow, Table};
 use ftpp_base::{MOST_CYCLES, MOST_GROUPS, Row};
@@ -42,21 +42,24 @@ fn waiting_since(starves: bool, now: u32, desc: &Descriptor, before: Option<Wait
     }
 }
 
-/// The request of a group after one pattern, by its line: gone without a voted request.
+/// The request of a group after one pattern: gone without a voted request. Its line should stand at that place.
 fn request_after(
     flags: &CycleFlags<'_>,
     now: u32,
+    lines: &[StateRow],
+    place: usize,
     vid: u8,
-    line: Option<&StateRow>,
     desc: Option<Descriptor>,
 ) -> Option<Waiting>
-    requires { (w : Waiting) → (line_or (option_copied line) vid).request ≡ Some w → w.2 < MOST_CYCLES }
-    ensures { result ≡ request_after flags.now now (line_or (option_copied line.entry) vid).request desc }
+    requires small { (w : Waiting) → (line_of lines.now vid).request ≡ Some w → w.2 < MOST_CYCLES }
+    requires order { ascend 0 (map line_number lines.now) ≡ true }
+    ensures { result ≡ request_after flags.now now (line_of lines.now vid).request desc }
 {
     match desc {
         Some(desc) => {
             let starves = lacks_space(flags, &desc);
-            Some(waiting_since(starves, now, &desc, request_in(line)))
+            let before = request_near(lines, place, vid);
+            Some(waiting_since(starves, now, &desc, before))
         }
         None => None,
     }
@@ -102,42 +105,46 @@ fn lag_after(group: &Group, one: &GroupFlags, lag: u32, index: u8) -> u32
     }
 }
 
-/// The lags of a group's members after one pattern, by its line.
-fn lags_after(group: &Group, one: &GroupFlags, line: Option<&StateRow>) -> [u32; 4]
+/// The lags of a group's members after one pattern. Its line should stand at that place.
+fn lags_after(group: &Group, one: &GroupFlags, lines: &[StateRow], place: usize) -> [u32; 4]
     requires bounded { IsBounded 5 group.now }
-    requires small { (index : ℕ) → slice_index (line_or (option_copied line) group.now.vid).lags index < MOST_CYCLES }
-    ensures { result ≡ lags_after group.now one.now (line_or (option_copied line.entry) group.now.vid).lags }
+    requires small { (index : ℕ) → slice_index (line_of lines.now group.now.vid).lags index < MOST_CYCLES }
+    requires order { ascend 0 (map line_number lines.now) ≡ true }
+    ensures { result ≡ lags_after group.now one.now (line_of lines.now group.now.vid).lags }
 {
     if some_lag(group, one) {
+        let vid = group.vid;
         [
-            lag_after(group, one, lag_in(line, 0), 0),
-            lag_after(group, one, lag_in(line, 1), 1),
-            lag_after(group, one, lag_in(line, 2), 2),
-            lag_after(group, one, lag_in(line, 3), 3),
+            lag_after(group, one, lag_near(lines, place, vid, 0), 0),
+            lag_after(group, one, lag_near(lines, place, vid, 1), 1),
+            lag_after(group, one, lag_near(lines, place, vid, 2), 2),
+            lag_after(group, one, lag_near(lines, place, vid, 3), 3),
         ]
     } else {
         [0; 4]
     }
 }
 
-/// A group's line after one pattern, by its line before.
+/// A group's line after one pattern. Its line before should stand at that place.
 fn line_after(
     flags: &CycleFlags<'_>,
     now: u32,
     group: &Group,
-    line: Option<&StateRow>,
+    lines: &[StateRow],
+    place: usize,
     one: Option<&GroupFlags>,
 ) -> StateRow
     requires cycle { now < MOST_CYCLES }
     requires bounded { IsBounded 5 group.now }
-    requires earlier { IsBefore now (line_or (option_copied line) group.now.vid) }
-    ensures { result ≡ line_after flags.now now group.now (line_or (option_copied line.entry) group.now.vid) (option_copied one.entry) }
+    requires earlier { IsBefore now (line_of lines.now group.now.vid) }
+    requires order { ascend 0 (map line_number lines.now) ≡ true }
+    ensures { result ≡ line_after flags.now now group.now (line_of lines.now group.now.vid) (option_copied one.entry) }
 {
     match one {
         Some(one) => StateRow {
             vid: group.vid,
-            request: request_after(flags, now, group.vid, line, one.desc),
-            lags: lags_after(group, one, line),
+            request: request_after(flags, now, lines, place, group.vid, one.desc),
+            lags: lags_after(group, one, lines, place),
         },
         None => blank_line(group.vid),
     }
@@ -160,8 +167,7 @@ pub(crate) fn mark_all(
 {
     after.clear();
     for (place, group) in groups_in(table).iter().enumerate() {
-        let line = line_near(lines, place, group.vid);
         let one = flags.near(place, group.vid);
-        after.push(line_after(flags, now, group, line, one));
+        after.push(line_after(flags, now, group, lines, place, one));
     }
 }
