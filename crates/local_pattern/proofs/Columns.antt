@@ -5,14 +5,15 @@ use Rattle.std.specs.List.{AllByRecursion}
 use Rattle.std.proofs.lemmas.List.{drop_all}
 use Rattle.ftpp_base.specs.Bits.{eight}
 use Rattle.local_pattern.specs.declared.Entry.{Entry}
-use Rattle.local_pattern.specs.Pattern.{quiet, quiet_column, read_entry, read_column, column_bytes, IsPlain, ArePlain}
+use Rattle.local_pattern.specs.Pattern.{quiet, room, quiet_column, read_entry, read_column, column_bytes, IsPlain, ArePlain}
 use Rattle.local_pattern.proofs.Entries.{read_entry-plain}
 use Rattle.local_pattern.proofs.RoundTrip.{read_column-column_bytes}
 
--- the entries below a port are those that the row shows
+-- the entries below a port are those that the row shows, and the others room
 pub record HasRead (row : List ℕ) (port : ℕ) (entries : List Entry) : Type 0 where
   pub long : length entries ≡ 8
   pub shown : (p : ℕ) → p < port → get_or entries p quiet ≡ read_entry (slice_range row (4 * p) (4 * p + 4))
+  pub others : (p : ℕ) → port ≤ p → p < 8 → get_or entries p quiet ≡ room
 
 -- a list of eight items by its places
 pub eight_items : (xs : List Entry) → length xs ≡ 8 → xs ≡ map (λ i. get_or xs i quiet) eight

@@ -1,5 +1,5 @@
 -- A local pattern, one entry for each of eight ports, and the 32 bytes that show it.
-use Rattle.std.specs.Prelude.{◌≡◌, ℕ, ◌+◌, ◌*◌, false, List, [], ◌∷◌, map, replicate, slice_index, slice_index_or, slice_range, Option, Some, None, if◌then◌else◌}
+use Rattle.std.specs.Prelude.{◌≡◌, ℕ, ◌+◌, ◌*◌, true, false, List, [], ◌∷◌, map, replicate, slice_index, slice_index_or, slice_range, Option, Some, None, if◌then◌else◌}
 use Rattle.std.specs.List.{flat_map}
 use Rattle.ftpp_base.specs.Bits.{bit, eight}
 use Rattle.ftpp_base.specs.declared.element.Proc.{Proc}
@@ -9,6 +9,10 @@ use Rattle.local_pattern.specs.declared.Entry.{Entry}
 -- no request and no space
 abbrev pub quiet : Entry
 quiet = record { not_empty = false; not_full = false; desc = no_descriptor }
+
+-- room and no request
+abbrev pub room : Entry
+room = record { not_empty = false; not_full = true; desc = no_descriptor }
 
 -- the eight entries of an element that shows nothing
 abbrev pub quiet_column : List Entry

@@ -1,10 +1,10 @@
 //! The pattern of one element: an entry for each of its eight ports.
 
-ghost use Rattle.std.specs.Prelude.{◌≡◌, ◌<◌, ◌+◌, ◌*◌, ◌++◌, length, take, drop, replicate, slice_set, slice_index_or, option_map, Some};
+ghost use Rattle.std.specs.Prelude.{◌≡◌, ◌<◌, ◌+◌, ◌*◌, ◌++◌, length, take, drop, replicate, slice_set, slice_index_or, option_map, Some, IfSome, IsNone};
 ghost use Rattle.local_pattern.specs.Pattern.{IsPlain, column_bytes, entry_bytes, read_column, quiet, quiet_column};
 
 use crate::Entry;
-use crate::spelling::{QUIET, read, spelled};
+use crate::spelling::{QUIET, ROOM, is_room, read, spelled};
 use std::marker::Model;
 
 /// What the eight ports of an element show. Clauses see the list of entries, by port.
@@ -38,13 +38,17 @@ fn put_entry(bytes: &mut [u8; 32], port: usize, entry: &Entry)
     bytes[at..at + 4].copy_from_slice(&spelled(entry));
 }
 
-/// Writes the entries that a row shows, port by port.
+/// Writes the entries that a row shows, port by port. Most ports show room and no request, so that is there to begin with.
 fn read_row(row: &[u8; 32], entries: &mut [Entry; 8])
     ensures { entries.new ≡ read_column (Some row.now) }
 {
+    *entries = [ROOM; 8];
     for port in 0..8 {
         let at = 4 * port;
-        entries[port] = read(row[at], row[at + 1], row[at + 2], row[at + 3]);
+        let (flags, dest, class, source) = (row[at], row[at + 1], row[at + 2], row[at + 3]);
+        if !is_room(flags, dest, class, source) {
+            entries[port] = read(flags, dest, class, source);
+        }
     }
 }
 
@@ -77,6 +81,20 @@ impl LocalPattern {
             self.entries[port]
         } else {
             QUIET
+        }
+    }
+
+    /// What a port shows, lent; None for a number that is no port.
+    #[tactic(auto, using(std::proofs::lemmas::List::get_or_past))]
+    pub fn peek(&self, port: u8) -> Option<&Entry>
+        ensures some { IfSome result (λ entry. entry.now ≡ slice_index_or self.now port quiet) }
+        ensures none { IsNone result → slice_index_or self.now port quiet ≡ quiet }
+    {
+        let port = usize::from(port);
+        if port < self.entries.len() {
+            Some(&self.entries[port])
+        } else {
+            None
         }
     }
 

@@ -1,8 +1,8 @@
 //! One entry as four bytes: flags, destination, class, source.
 
-ghost use Rattle.std.specs.Prelude.{◌≡◌, IsNone, IfSome, [], ◌∷◌};
+ghost use Rattle.std.specs.Prelude.{◌≡◌, true, IsNone, IfSome, [], ◌∷◌};
 ghost use Rattle.local_pattern.specs.declared.Entry.{Entry};
-ghost use Rattle.local_pattern.specs.Pattern.{IsPlain, Shows, entry_bytes, read_entry, quiet};
+ghost use Rattle.local_pattern.specs.Pattern.{IsPlain, Shows, entry_bytes, read_entry, quiet, room};
 
 use crate::Entry;
 use crate::flags::{flags_byte, flags_of};
@@ -18,6 +18,20 @@ pub(crate) const QUIET: Entry = Entry {
         source: 0,
     },
 };
+
+/// Room and no request.
+pub(crate) const ROOM: Entry = Entry {
+    not_empty: false,
+    not_full: true,
+    desc: Descriptor {
+        dest: 0,
+        class: 0,
+        source: 0,
+    },
+};
+
+/// The four bytes of `ROOM` as one number, the first byte lowest.
+const ROOM_WORD: u32 = 2;
 
 /// The four bytes of an entry. Where its output is empty its descriptor is zeros.
 pub(crate) fn spelled(entry: &Entry) -> [u8; 4]
@@ -50,6 +64,13 @@ fn shown(flags: u8, dest: u8, class: u8, source: u8) -> Option<Entry>
             source,
         },
     })
+}
+
+/// Whether four bytes are those of room and no request.
+pub(crate) fn is_room(flags: u8, dest: u8, class: u8, source: u8) -> bool
+    ensures { result ≡ true → read_entry (flags ∷ dest ∷ class ∷ source ∷ []) ≡ room }
+{
+    u32::from_le_bytes([flags, dest, class, source]) == ROOM_WORD
 }
 
 /// The entry that four bytes are read as: outside the grammar no request and no space.

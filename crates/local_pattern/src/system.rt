@@ -1,7 +1,7 @@
 //! The agreed pattern: what the ports of all elements show.
 
-ghost use Rattle.std.specs.Prelude.{◌≡◌, ◌<◌, [], length, replicate, slice_set, slice_index_or, option_map};
-ghost use Rattle.local_pattern.specs.Pattern.{entry_of, quiet_column, read_column};
+ghost use Rattle.std.specs.Prelude.{◌≡◌, ◌<◌, [], length, replicate, slice_set, slice_index_or, option_map, IfSome, IsNone};
+ghost use Rattle.local_pattern.specs.Pattern.{entry_of, quiet, quiet_column, read_column};
 
 use crate::spelling::QUIET;
 use crate::{Entry, LocalPattern};
@@ -76,6 +76,20 @@ impl<const N: usize> SystemPattern<N> {
         ensures { result ≡ entry_of self.now proc }
     {
         self.columns[usize::from(proc.ne)].entry(proc.port)
+    }
+
+    /// What a processor's port shows, lent; None for a processor that is not there.
+    #[tactic(auto, using(std::proofs::lemmas::List::get_or_past))]
+    pub fn peek(&self, proc: Proc) -> Option<&Entry>
+        ensures some { IfSome result (λ entry. entry.now ≡ entry_of self.now proc) }
+        ensures none { IsNone result → entry_of self.now proc ≡ quiet }
+    {
+        let ne = usize::from(proc.ne);
+        if ne < self.columns.len() {
+            self.columns[ne].peek(proc.port)
+        } else {
+            None
+        }
     }
 
     /// Like `entry`, but for any processor: one that is not there shows no request and no space.
