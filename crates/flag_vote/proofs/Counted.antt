@@ -1,7 +1,8 @@
 -- Members that are gathered one after the other, and the flags that they make.
-use Rattle.std.proofs.Common.{◌≡◌, ℕ, ◌+◌, ◌<◌, ◌≤◌, Bool, true, false, cond, List, [], ◌∷◌, ◌++◌, length, map, drop, take, get_or, refl, ap, sym, ◌∙◌, arith, Option, Some, None, append_assoc}
+use Rattle.std.proofs.Common.{◌≡◌, ℕ, ◌+◌, ◌<◌, ◌≤◌, Bool, true, false, cond, List, [], ◌∷◌, ◌++◌, length, map, drop, take, get_or, refl, ap, sym, ◌∙◌, ◌*◌, ◌%◌, ◌^◌, bit_or, arith, Option, Some, None, append_assoc}
 use Rattle.std.specs.Prelude.{◌==◌, ◌||◌, filter, find, count_by}
-use Rattle.std.proofs.lemmas.List.{drop_more, drop_all, take_more, map-append}
+use Rattle.std.specs.Int.Bits.{or_zero_r}
+use Rattle.std.proofs.lemmas.List.{append-nil, drop_more, drop_all, take_more, map-append}
 use Rattle.std.proofs.lemmas.List.Elements.{filter-append}
 use Rattle.std.proofs.lemmas.Bool.{and_parts, ltb-false, le-ltb}
 use Rattle.ftpp_base.proofs.Counts.{count_by-cons, count_le}
@@ -12,6 +13,7 @@ use Rattle.ftpp_base.specs.Lists.{is_in}
 use Rattle.ftpp_base.specs.Sets.{has, set_of, with_number}
 use Rattle.ftpp_base.specs.declared.element.Proc.{Proc}
 use Rattle.ftpp_base.specs.declared.sets.Set8.{Set8}
+use Rattle.ftpp_base.proofs.Adding.{with_bit}
 use Rattle.ftpp_base.proofs.SetLaws.{has-set_where, set_where-same}
 use Rattle.packet_format.specs.declared.Descriptor.{Descriptor}
 use Rattle.config_table.specs.Groups.{live_members, elements_of}
@@ -95,6 +97,24 @@ pub set_same : (xs : List ℕ) (k : ℕ) → 8 ≤ k → set_of xs ≡ set_of (x
 set_same xs k h =
     set_where-same (is_in xs) (is_in (xs ++ k ∷ [])) (λ i l.
     not_this (is_in xs i) i k l h ∙ sym (list_any-append (λ y. y == i) xs (k ∷ [])))
+
+-- a bit that is set where a number belongs there
+pub set_more_if : (b : Bool) (s : Set8) (k n : ℕ) (xs : List ℕ) → s.bits < 2 ^ 8 → k < 8 → n ≡ cond b 1 0 → s ≡ set_of xs
+    → (let set : Set8 = record { bits = bit_or s.bits (n * 2 ^ k % 256) } in set) ≡ set_of (xs ++ cond b (k ∷ []) [])
+set_more_if true s k n xs small l one is =
+    ap (λ m. let set : Set8 = record { bits = bit_or s.bits (m * 2 ^ k % 256) } in set) one
+    ∙ with_bit s k small l
+    ∙ ap (λ t. with_number t k) is
+    ∙ set_more xs k
+set_more_if false s k n xs small l zero is =
+    let nothing : n * 2 ^ k % 256 ≡ 0 = ap (λ m. m * 2 ^ k % 256) zero ∙ omega arith in
+    ap (λ m. let set : Set8 = record { bits = m } in set) (ap (bit_or s.bits) nothing ∙ or_zero_r s.bits)
+    ∙ is
+    ∙ ap set_of (sym (append-nil xs))
+
+pub set_same_if : (b : Bool) (xs : List ℕ) (k : ℕ) → 8 ≤ k → set_of xs ≡ set_of (xs ++ cond b (k ∷ []) [])
+set_same_if true xs k h = set_same xs k h
+set_same_if false xs k h = ap set_of (sym (append-nil xs))
 
 -- no element is in no set
 pub set_none : (s : Set8) → s.bits ≡ 0 → s ≡ set_of []

@@ -8,20 +8,12 @@ use Rattle.packet_format.specs.declared.Descriptor.{Descriptor}
 use Rattle.config_table.specs.Groups.{elements_of}
 pub use Rattle.config_table.specs.Members.{unmasked_from}
 use Rattle.config_table.specs.declared.decisions.GroupFlags.{GroupFlags}
-use Rattle.flag_vote.specs.declared.members.Word.{Word}
-use Rattle.flag_vote.specs.declared.members.Word.TheVariants.{Asks, Holds, Space}
 use Rattle.local_pattern.specs.Pattern.{entry_of}
 use Rattle.flag_vote.specs.Flags.{Pattern, holds, has_space, descriptor_of}
 
 -- whether a member has a request
 abbrev pub asks : Pattern → Proc → Bool
 asks pattern proc = (entry_of pattern proc).not_empty
-
--- whether a member says the word
-abbrev pub says : Pattern → Word → Proc → Bool
-says pattern Asks = asks pattern
-says pattern (Holds desc) = holds pattern desc
-says pattern Space = has_space pattern
 
 -- whether more than half of the members hold the request
 abbrev pub most_hold : Pattern → List Proc → Descriptor → Bool

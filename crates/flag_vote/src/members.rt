@@ -4,21 +4,13 @@ ghost use Rattle.std.specs.Prelude.{◌≡◌, ◌<◌, ◌≤◌, ◌+◌, ◌+
 ghost use Rattle.ftpp_base.specs.Sets.{set_of};
 ghost use Rattle.packet_format.specs.Packets.{same_descriptor};
 ghost use Rattle.config_table.specs.Groups.{elements_of, live_members};
-ghost use Rattle.flag_vote.specs.Flags.{has_space};
-ghost use Rattle.flag_vote.specs.Words.{asks, says, unmasked_from};
+ghost use Rattle.flag_vote.specs.Flags.{has_space, holds};
+ghost use Rattle.flag_vote.specs.Words.{asks, unmasked_from};
 
 use config_table::Group;
 use ftpp_base::{Proc, Row, Set8};
 use local_pattern::SystemPattern;
 use packet_format::Descriptor;
-
-/// What a member may say: that it has a request, that it holds this one, or that its input has room.
-#[derive(Drop)]
-pub enum Word {
-    Asks,
-    Holds(Descriptor),
-    Space,
-}
 
 /// Some of the members of a group.
 pub type Members = Row<Proc, 4>;
@@ -63,15 +55,13 @@ fn same(a: &Descriptor, b: &Descriptor) -> bool
     a.dest == b.dest && a.class == b.class && a.source == b.source
 }
 
-/// Whether a member says the word.
-fn says<const N: usize>(pattern: &SystemPattern<N>, word: &Word, proc: Proc) -> bool
-    ensures { result ≡ says pattern.now word.now proc }
+/// Whether a member holds the request.
+fn holds<const N: usize>(pattern: &SystemPattern<N>, desc: &Descriptor, proc: Proc) -> bool
+    ensures { result ≡ holds pattern.now desc.now proc }
 {
-    let entry = pattern.shown(proc);
-    match word {
-        Word::Asks => entry.not_empty,
-        Word::Holds(desc) => entry.not_empty && same(&entry.desc, desc),
-        Word::Space => entry.not_full,
+    match pattern.peek(proc) {
+        Some(entry) => entry.not_empty && same(&entry.desc, desc),
+        None => false,
     }
 }
 
@@ -83,24 +73,6 @@ fn one_more(count: usize, counts: bool) -> usize
     if counts { count + 1 } else { count }
 }
 
-/// How many members say the word.
-pub fn count_those<const N: usize>(
-    pattern: &SystemPattern<N>,
-    word: &Word,
-    members: &[Proc],
-) -> usize
-    requires { length members.now ≤ 4 }
-    ensures count { result ≡ count_by (says pattern.now word.now) members.now }
-    ensures few { result ≤ 4 }
-{
-    let mut count = 0;
-    for p in members {
-        let counts = says(pattern, word, *p);
-        count = one_more(count, counts);
-    }
-    count
-}
-
 /// The set with one element more. No set has a number that is 8 or more.
 #[tactic(auto, using(crate::proofs::Counted::set_more, crate::proofs::Counted::set_same))]
 fn with_element(set: Set8, ne: u8) -> Set8
@@ -109,32 +81,72 @@ fn with_element(set: Set8, ne: u8) -> Set8
     if ne < 8 { set.with(ne) } else { set }
 }
 
+/// The set of the bits of a byte, with one element more where it belongs there.
+fn with_bit_if(bits: u8, belongs: bool, ne: u8) -> Set8
+    requires { ne < 8 }
+    ensures { (xs : List ℕ) → record { bits = bits } ≡ set_of xs → result ≡ set_of (xs ++ (if belongs then ne ∷ [] else [])) }
+{
+    Set8 {
+        bits: bits | (u8::from(belongs) << ne),
+    }
+}
+
 /// The set with one element more where it belongs there, and the set as it is where not.
 fn with_element_if(set: Set8, belongs: bool, ne: u8) -> Set8
     ensures { (xs : List ℕ) → set ≡ set_of xs → result ≡ set_of (xs ++ (if belongs then ne ∷ [] else [])) }
 {
-    if belongs { with_element(set, ne) } else { set }
+    if ne < 8 {
+        with_bit_if(set.bits, belongs, ne)
+    } else {
+        set
+    }
 }
 
-/// How many members say the word, and the elements at which they stand.
-pub fn tally<const N: usize>(
+/// Those of some members that hold a request.
+#[derive(Drop)]
+pub struct Holders {
+    /// How many they are.
+    pub count: usize,
+    /// Where they stand.
+    pub elements: Set8,
+}
+
+/// Counts a member where it holds the request.
+fn add_holder<const N: usize>(
     pattern: &SystemPattern<N>,
-    word: &Word,
-    members: &[Proc],
-) -> (usize, Set8)
-    requires { length members.now ≤ 4 }
-    ensures count { result.0 ≡ count_by (says pattern.now word.now) members.now }
-    ensures few { result.0 ≤ 4 }
-    ensures set { result.1 ≡ set_of (elements_of (filter (says pattern.now word.now) members.now)) }
+    desc: &Descriptor,
+    proc: Proc,
+    holders: &mut Holders,
+)
+    requires { holders.old.count < 4 }
+    ensures count { holders.new.count ≡ holders.old.count + (if holds pattern.now desc.now proc then 1 else 0) }
+    ensures elements { (xs : List ℕ) → holders.old.elements ≡ set_of xs → holders.new.elements ≡ set_of (xs ++ (if holds pattern.now desc.now proc then proc.ne ∷ [] else [])) }
 {
-    let mut count = 0;
-    let mut set = Set8::EMPTY;
-    for p in members {
-        let counts = says(pattern, word, *p);
-        count = one_more(count, counts);
-        set = with_element_if(set, counts, p.ne);
+    if holds(pattern, desc, proc) {
+        holders.count += 1;
+        holders.elements = with_element(holders.elements, proc.ne);
     }
-    (count, set)
+}
+
+/// The members that hold a request.
+pub fn holders_of<const N: usize>(
+    pattern: &SystemPattern<N>,
+    desc: &Descriptor,
+    members: &[Proc],
+) -> Holders
+    requires { length members.now ≤ 4 }
+    ensures count { result.count ≡ count_by (holds pattern.now desc.now) members.now }
+    ensures few { result.count ≤ 4 }
+    ensures elements { result.elements ≡ set_of (elements_of (filter (holds pattern.now desc.now) members.now)) }
+{
+    let mut holders = Holders {
+        count: 0,
+        elements: Set8::EMPTY,
+    };
+    for p in members {
+        add_holder(pattern, desc, *p, &mut holders);
+    }
+    holders
 }
 
 /// What members say of themselves, counted in one go.
@@ -150,6 +162,25 @@ pub struct Said {
     pub live: Set8,
 }
 
+/// Adds what one member says.
+fn hear<const N: usize>(pattern: &SystemPattern<N>, proc: Proc, said: &mut Said)
+    requires few { said.old.asking < 4 }
+    requires few_with { said.old.with_space < 4 }
+    ensures asking { said.new.asking ≡ said.old.asking + (if asks pattern.now proc then 1 else 0) }
+    ensures with_space { said.new.with_space ≡ said.old.with_space + (if has_space pattern.now proc then 1 else 0) }
+    ensures space { (xs : List ℕ) → said.old.space ≡ set_of xs → said.new.space ≡ set_of (xs ++ (if has_space pattern.now proc then proc.ne ∷ [] else [])) }
+    ensures live { (xs : List ℕ) → said.old.live ≡ set_of xs → said.new.live ≡ set_of (xs ++ proc.ne ∷ []) }
+{
+    let Some(entry) = pattern.peek(proc) else {
+        said.live = with_element(said.live, proc.ne);
+        return;
+    };
+    said.asking = one_more(said.asking, entry.not_empty);
+    said.with_space = one_more(said.with_space, entry.not_full);
+    said.space = with_element_if(said.space, entry.not_full, proc.ne);
+    said.live = with_element(said.live, proc.ne);
+}
+
 /// Asks all members what they say.
 pub fn survey<const N: usize>(pattern: &SystemPattern<N>, members: &[Proc]) -> Said
     requires { length members.now ≤ 4 }
@@ -160,33 +191,14 @@ pub fn survey<const N: usize>(pattern: &SystemPattern<N>, members: &[Proc]) -> S
     ensures space { result.space ≡ set_of (elements_of (filter (has_space pattern.now) members.now)) }
     ensures live { result.live ≡ set_of (elements_of members.now) }
 {
-    let mut asking = 0;
-    let mut with_space = 0;
-    let mut space = Set8::EMPTY;
-    let mut live = Set8::EMPTY;
+    let mut said = Said {
+        asking: 0,
+        with_space: 0,
+        space: Set8::EMPTY,
+        live: Set8::EMPTY,
+    };
     for p in members {
-        let asks = says(pattern, &Word::Asks, *p);
-        let has_space = says(pattern, &Word::Space, *p);
-        asking = one_more(asking, asks);
-        with_space = one_more(with_space, has_space);
-        space = with_element_if(space, has_space, p.ne);
-        live = with_element(live, p.ne);
+        hear(pattern, *p, &mut said);
     }
-    Said {
-        asking,
-        with_space,
-        space,
-        live,
-    }
-}
-
-/// The elements at which the members stand.
-pub fn elements(members: &[Proc]) -> Set8
-    ensures { result ≡ set_of (elements_of members.now) }
-{
-    let mut set = Set8::EMPTY;
-    for p in members {
-        set = with_element(set, p.ne);
-    }
-    set
+    said
 }

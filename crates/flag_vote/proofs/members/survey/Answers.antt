@@ -1,4 +1,4 @@
-use Rattle.std.proofs.Common.{◌∙◌, ◌++◌, [], ◌∷◌, ℕ, List, Bool, cond, ap, sym, refl, take, get_or, arith}
+use Rattle.std.proofs.Common.{◌∙◌, [], ◌∷◌, List, ap, sym, refl, take, get_or, arith}
 use Rattle.std.specs.Prelude.{filter}
 use Rattle.std.proofs.lemmas.List.{take_all, take_more, map-append}
 use Rattle.ftpp_base.specs.Sets.{set_of}
@@ -10,19 +10,13 @@ use Rattle.flag_vote.specs.Words.{asks}
 use Rattle.flag_vote.proofs.Counted.{set_none, elements_more, count_more, one_at_most, none_left}
 use Rattle.flag_vote.proofs.members.survey.Goals as goal
 
-pub one_more-asking-requires : goal.one_more-asking-requires
-one_more-asking-requires g c =
+pub hear-requires : goal.hear-requires
+hear-requires g c =
     let few = c.loop-p.invariant.few in
+    let few_with = c.loop-p.invariant.few_with in
     let here = c.loop-p-test.true in
     let most = c.requires in
-    omega arith
-
-pub one_more-with_space-requires : goal.one_more-with_space-requires
-one_more-with_space-requires g c =
-    let few = c.loop-p.invariant.few_with in
-    let here = c.loop-p-test.true in
-    let most = c.requires in
-    omega arith
+    (omega arith, omega arith)
 
 pub loop-p-init : goal.loop-p-init
 loop-p-init g c =
@@ -40,18 +34,16 @@ loop-p-preserved g c =
     let spaced = i.spaced in
     let more_ask = count_more (asks c.args.pattern.now) c.loop-p.p-index c.args.members.now none c.loop-p-test.true in
     let more_room = count_more (has_space c.args.pattern.now) c.loop-p.p-index c.args.members.now none c.loop-p-test.true in
-    let is_asking = c.one_more-asking.ensures in
-    let is_with = c.one_more-with_space.ensures in
-    let says_asks = ap (λ (b : Bool). cond {A = ℕ} b 1 0) c.says-asks.ensures in
-    let says_room = ap (λ (b : Bool). cond {A = ℕ} b 1 0) c.says-has_space.ensures in
+    let is_asking = c.hear.ensures.asking in
+    let is_with = c.hear.ensures.with_space in
     record {
-      few = one_at_most c.says-asks.result c.loop-p.asking c.one_more-asking.result c.loop-p.p-index is_asking i.few;
-      few_with = one_at_most c.says-has_space.result c.loop-p.with_space c.one_more-with_space.result c.loop-p.p-index is_with i.few_with;
+      few = one_at_most (asks c.args.pattern.now here) c.loop-p.said.asking c.hear.new.said.asking c.loop-p.p-index is_asking i.few;
+      few_with = one_at_most (has_space c.args.pattern.now here) c.loop-p.said.with_space c.hear.new.said.with_space c.loop-p.p-index is_with i.few_with;
       asked = omega arith;
       spaced = omega arith;
-      space = c.with_element_if-space.ensures with_room i.space
-          ∙ ap set_of (ap (λ (b : Bool). with_room ++ cond b (here.ne ∷ []) []) c.says-has_space.ensures ∙ sym (elements_more (has_space c.args.pattern.now) c.loop-p.p-index c.args.members.now none c.loop-p-test.true));
-      live = c.with_element-live.ensures (elements_of before) i.live
+      space = c.hear.ensures.space with_room i.space
+          ∙ ap set_of (sym (elements_more (has_space c.args.pattern.now) c.loop-p.p-index c.args.members.now none c.loop-p-test.true));
+      live = c.hear.ensures.live (elements_of before) i.live
           ∙ ap set_of (sym (ap elements_of (take_more c.args.members.now c.loop-p.p-index none c.loop-p-test.true) ∙ map-append (λ (p : Proc). p.ne) before (here ∷ [])));
     }
 

@@ -9,10 +9,10 @@ use Rattle.flag_vote.proofs.members.survey.Given as goal
 -- those so far are counted, and their elements are in the sets
 abbrev pub invariant-loop-p : goal.invariant-loop-p
 invariant-loop-p g l = record {
-  few : l.asking ≤ l.p-index;
-  few_with : l.with_space ≤ l.p-index;
-  asked : l.asking + count_by (asks l.pattern) (drop l.p-index l.members) ≡ count_by (asks l.pattern) l.members;
-  spaced : l.with_space + count_by (has_space l.pattern) (drop l.p-index l.members) ≡ count_by (has_space l.pattern) l.members;
-  space : l.space ≡ set_of (elements_of (filter (has_space l.pattern) (take l.p-index l.members)));
-  live : l.live ≡ set_of (elements_of (take l.p-index l.members));
+  few : l.said.asking ≤ l.p-index;
+  few_with : l.said.with_space ≤ l.p-index;
+  asked : l.said.asking + count_by (asks l.pattern) (drop l.p-index l.members) ≡ count_by (asks l.pattern) l.members;
+  spaced : l.said.with_space + count_by (has_space l.pattern) (drop l.p-index l.members) ≡ count_by (has_space l.pattern) l.members;
+  space : l.said.space ≡ set_of (elements_of (filter (has_space l.pattern) (take l.p-index l.members)));
+  live : l.said.live ≡ set_of (elements_of (take l.p-index l.members));
 }
