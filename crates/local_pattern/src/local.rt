@@ -38,11 +38,14 @@ fn put_entry(bytes: &mut [u8; 32], port: usize, entry: &Entry)
     bytes[at..at + 4].copy_from_slice(&spelled(entry));
 }
 
+/// Room and no request at each port: to copy it whole is quicker than to write eight entries.
+static ALL_ROOM: [Entry; 8] = [ROOM; 8];
+
 /// Writes the entries that a row shows, port by port. Most ports show room and no request, so that is there to begin with.
 fn read_row(row: &[u8; 32], entries: &mut [Entry; 8])
     ensures { entries.new ≡ read_column (Some row.now) }
 {
-    *entries = [ROOM; 8];
+    entries.copy_from_slice(&ALL_ROOM);
     for port in 0..8 {
         let at = 4 * port;
         let (flags, dest, class, source) = (row[at], row[at + 1], row[at + 2], row[at + 3]);
