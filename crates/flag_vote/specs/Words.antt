@@ -44,3 +44,11 @@ flags_on pattern vid live = record {
   space = set_of (elements_of (filter (has_space pattern) live));
   most_space = most (has_space pattern) live;
 }
+
+-- flags with this voted request of these members
+abbrev pub with_vote : Pattern → List Proc → Option Descriptor → GroupFlags → GroupFlags
+with_vote pattern members desc flags = record flags {
+  desc = desc;
+  unanimous = all_hold_it pattern members desc;
+  holds = set_of (elements_of (held_by pattern members desc));
+}

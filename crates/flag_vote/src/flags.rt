@@ -1,12 +1,12 @@
 //! The flags of each group of a table.
 
-ghost use Rattle.std.specs.Prelude.{◌≡◌, ◌≤◌, [], count_by, filter, length, map, option_map, IfSome};
+ghost use Rattle.std.specs.Prelude.{◌≡◌, ◌<◌, ◌≤◌, ◌++◌, [], ◌∷◌, None, count_by, filter, length, map, option_map, IfSome};
 ghost use Rattle.std.specs.List.{list_all};
 ghost use Rattle.ftpp_base.specs.Bits.{is_majority};
 ghost use Rattle.ftpp_base.specs.Sets.{set_of};
 ghost use Rattle.config_table.specs.Groups.{elements_of, live_members};
 ghost use Rattle.flag_vote.specs.Flags.{flags_of, holds, voted_flags};
-ghost use Rattle.flag_vote.specs.Words.{asks, flags_on, most_held};
+ghost use Rattle.flag_vote.specs.Words.{asks, flags_on, most_held, with_vote};
 
 use crate::members::{Members, holders_of, live_members, survey};
 use config_table::{Group, GroupFlags, Table, VotedFlags};
@@ -24,7 +24,7 @@ fn is_majority(part: usize, whole: usize) -> bool
 
 /// A request that more than half of the live members hold.
 #[derive(Drop)]
-struct Vote {
+struct Held {
     desc: Descriptor,
     /// The elements of those that hold it.
     holds: Set8,
@@ -33,17 +33,17 @@ struct Vote {
 }
 
 /// The request that more than half of the live members hold, if any.
-fn first_held<const N: usize>(pattern: &SystemPattern<N>, live: &[Proc]) -> Option<Vote>
+fn first_held<const N: usize>(pattern: &SystemPattern<N>, live: &[Proc]) -> Option<Held>
     requires { length live.now ≤ 4 }
-    ensures desc { option_map (λ vote. vote.desc) result ≡ most_held pattern.now live.now }
-    ensures holds { IfSome result (λ vote. vote.holds ≡ set_of (elements_of (filter (holds pattern.now vote.desc) live.now))) }
-    ensures all { IfSome result (λ vote. vote.unanimous ≡ list_all (holds pattern.now vote.desc) live.now) }
+    ensures desc { option_map (λ held. held.desc) result ≡ most_held pattern.now live.now }
+    ensures holds { IfSome result (λ held. held.holds ≡ set_of (elements_of (filter (holds pattern.now held.desc) live.now))) }
+    ensures all { IfSome result (λ held. held.unanimous ≡ list_all (holds pattern.now held.desc) live.now) }
 {
     for p in live {
         let desc = pattern.shown(*p).desc;
         let holders = holders_of(pattern, &desc, live);
         if is_majority(holders.count, live.len()) {
-            return Some(Vote {
+            return Some(Held {
                 desc,
                 holds: holders.elements,
                 unanimous: holders.count == live.len(),
@@ -53,53 +53,44 @@ fn first_held<const N: usize>(pattern: &SystemPattern<N>, live: &[Proc]) -> Opti
     None
 }
 
-/// Like `first_held`, but by how many ask at all: without more than half of the live members there is no voted request.
-fn voted_by<const N: usize>(
-    pattern: &SystemPattern<N>,
-    live: &[Proc],
-    asking: usize,
-) -> Option<Vote>
+/// Puts the request that more than half of the live members hold, if any, into flags that tell of none.
+fn vote<const N: usize>(pattern: &SystemPattern<N>, live: &[Proc], flags: &mut GroupFlags)
     requires few { length live.now ≤ 4 }
-    requires few_asking { asking ≤ 4 }
-    requires asking { asking ≡ count_by (asks pattern.now) live.now }
-    ensures desc { option_map (λ vote. vote.desc) result ≡ most_held pattern.now live.now }
-    ensures holds { IfSome result (λ vote. vote.holds ≡ set_of (elements_of (filter (holds pattern.now vote.desc) live.now))) }
-    ensures all { IfSome result (λ vote. vote.unanimous ≡ list_all (holds pattern.now vote.desc) live.now) }
+    requires none { flags.old ≡ with_vote pattern.now live.now None flags.old }
+    ensures { flags.new ≡ with_vote pattern.now live.now (most_held pattern.now live.now) flags.old }
 {
-    if is_majority(asking, live.len()) {
-        first_held(pattern, live)
-    } else {
-        None
+    match first_held(pattern, live) {
+        Some(held) => {
+            flags.desc = Some(held.desc);
+            flags.holds = held.holds;
+            flags.unanimous = held.unanimous;
+        }
+        None => {}
     }
 }
 
-/// The flags of a group with these live members.
-fn flags_on<const N: usize>(pattern: &SystemPattern<N>, vid: u8, live: &[Proc]) -> GroupFlags
+/// The flags of a group with these live members, but for the voted request, and how many members ask.
+fn flags_but_vote<const N: usize>(
+    pattern: &SystemPattern<N>,
+    vid: u8,
+    live: &[Proc],
+) -> (GroupFlags, usize)
     requires { length live.now ≤ 4 }
-    ensures { result ≡ flags_on pattern.now vid live.now }
+    ensures flags { result.0 ≡ with_vote pattern.now live.now None (flags_on pattern.now vid live.now) }
+    ensures asking { result.1 ≡ count_by (asks pattern.now) live.now }
+    ensures few { result.1 ≤ 4 }
 {
     let said = survey(pattern, live);
-    let most_space = is_majority(said.with_space, live.len());
-    match voted_by(pattern, live, said.asking) {
-        Some(vote) => GroupFlags {
-            vid,
-            desc: Some(vote.desc),
-            unanimous: vote.unanimous,
-            live: said.live,
-            holds: vote.holds,
-            space: said.space,
-            most_space,
-        },
-        None => GroupFlags {
-            vid,
-            desc: None,
-            unanimous: false,
-            live: said.live,
-            holds: Set8::EMPTY,
-            space: said.space,
-            most_space,
-        },
-    }
+    let flags = GroupFlags {
+        vid,
+        desc: None,
+        unanimous: false,
+        live: said.live,
+        holds: Set8::EMPTY,
+        space: said.space,
+        most_space: is_majority(said.with_space, live.len()),
+    };
+    (flags, said.asking)
 }
 
 /// The live members of a group, in the order of the table. Where nobody is masked these are all, and else they are put into
@@ -115,12 +106,24 @@ fn live_of<'a>(g: &'a Group, kept: &'a mut Members) -> &'a [Proc]
     kept.as_slice()
 }
 
-/// The flags of a group.
-fn group_flags<const N: usize>(pattern: &SystemPattern<N>, g: &Group) -> GroupFlags
-    ensures { result ≡ flags_of pattern.now g.now }
+/// Adds the flags of a group. Without a request of more than half of the live members there is nothing to vote on.
+fn add_group<const N: usize>(
+    pattern: &SystemPattern<N>,
+    g: &Group,
+    kept: &mut Members,
+    flags: &mut VotedFlags,
+)
+    requires { length flags.old.items < MOST_GROUPS }
+    ensures { flags.new.items ≡ flags.old.items ++ flags_of pattern.now g.now ∷ [] }
 {
-    let mut kept = Members::new();
-    flags_on(pattern, g.vid, live_of(g, &mut kept))
+    let live = live_of(g, kept);
+    let (one, asking) = flags_but_vote(pattern, g.vid, live);
+    let at = flags.len();
+    flags.push(one);
+    if is_majority(asking, live.len()) {
+        let all = flags.as_mut_slice();
+        vote(pattern, live, &mut all[at]);
+    }
 }
 
 /// Puts the flags of the groups into an empty list, in their order.
@@ -129,8 +132,9 @@ fn add_flags<const N: usize>(pattern: &SystemPattern<N>, groups: &[Group], flags
     requires empty { flags.old.items ≡ [] }
     ensures { flags.new.items ≡ map (flags_of pattern.now) groups.now }
 {
+    let mut kept = Members::new();
     for g in groups {
-        flags.push(group_flags(pattern, g));
+        add_group(pattern, g, &mut kept, flags);
     }
 }
 

@@ -59,10 +59,13 @@ fn same(a: &Descriptor, b: &Descriptor) -> bool
 fn holds<const N: usize>(pattern: &SystemPattern<N>, desc: &Descriptor, proc: Proc) -> bool
     ensures { result ≡ holds pattern.now desc.now proc }
 {
-    match pattern.peek(proc) {
-        Some(entry) => entry.not_empty && same(&entry.desc, desc),
-        None => false,
+    let Some(entry) = pattern.peek(proc) else {
+        return false;
+    };
+    if !entry.not_empty {
+        return false;
     }
+    same(&entry.desc, desc)
 }
 
 /// One more, where it counts.
