@@ -59,7 +59,7 @@ fn write_frame<const N: usize>(
     let me = kept.me();
     match round {
         Round::A1 => encode_one(slot, me, Some(kept.pattern()), frame),
-        Round::A2 => encode(slot, me, &patterns.echo(), frame),
+        Round::A2 => encode(slot, me, patterns.copies(), frame),
         Round::B1 => encode_one(slot, me, kept.packet(decision), frame),
         Round::B2 => encode(slot, me, &relayed_packets(packets, decision), frame),
     }

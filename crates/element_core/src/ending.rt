@@ -1,20 +1,24 @@
 //! The end of a cycle.
 
-ghost use Rattle.std.specs.Prelude.{◌≡◌, ◌≤◌, option_copied};
+ghost use Rattle.std.specs.Prelude.{◌≡◌, ◌≤◌, Some, length, option_copied, option_map};
 ghost use Rattle.element_notes.specs.AtHand.{AreResults};
 ghost use Rattle.element_core.specs.Sent.{is_relayed};
 ghost use Rattle.element_core.specs.Element.{own_entry, own_update, made};
 ghost use Rattle.element_core.specs.Noted.{noted_by};
 ghost use Rattle.element_core.specs.ElementValue.{ended_with, decision_now, packets_now};
 ghost use Rattle.element_core.specs.Frames.{FitsTable};
+ghost use Rattle.element_core.specs.Told.{told_of};
+ghost use Rattle.element_core.specs.Ended.{told_in};
 
-use crate::{CycleRecord, Due, Element};
+use crate::pending::Pending;
+use crate::{CycleRecord, Due, Element, Outcome3};
 use bit_vote::Cells;
 use config_table::{Decision, Table};
 use data_exchange::{entry, members_result};
 use element_notes::{Seen, note, relayed};
-use ftpp_base::{Round, Row};
+use ftpp_base::{Proc, Round, Row};
 use packet_format::Packet;
+use processor_buffers::Handed;
 use syndrome_log::Syndrome;
 use two_round::TwoRound;
 
@@ -24,20 +28,22 @@ impl<const N: usize> Element<N> {
         requires { self.old.due ≡ Due.Absorb Round.B2 }
         ensures { self.new ≡ ended_with self.old self.old.heard }
     {
-        let results = self.packets.results_of(relayed(&self.pending.decision));
+        self.packets
+            .results_into(relayed(&self.pending.decision), &mut self.results);
         let packet = entry_of(
             self.kept.table(),
             &self.pending.decision,
             &self.packets,
-            &results,
+            &self.results,
         );
         let asked = update_of(
             self.kept.table(),
             &self.pending.decision,
             &self.packets,
-            &results,
+            &self.results,
         );
-        let syndromes = self.noted(&results, packet.as_ref());
+        let mut syndromes = Row::new();
+        self.note(&self.results, packet.as_ref(), &mut syndromes);
         self.log.extend_from_slice(syndromes.as_slice());
         let cycle = self.kept.cycle();
         let handed = self.kept.serve(
@@ -46,28 +52,25 @@ impl<const N: usize> Element<N> {
             &mut self.pending.after,
         );
         let update = self.kept.update(&asked);
-        self.last = Some(CycleRecord {
+        let ended = Ended {
             cycle,
-            pattern: self.pending.pattern,
-            decision: self.pending.decision,
             packet,
             handed,
             update,
-            syndromes,
-        });
+        };
+        tell(&mut self.last, &self.pending, &ended, syndromes.as_slice());
         self.patterns.restart();
         self.packets.restart();
         self.due = Due::Emit(Round::A1);
     }
 
     /// What it notes of the others at the end of the cycle.
-    fn noted(&self, results: &Cells<N, 64>, entry: Option<&Packet>) -> Row<Syndrome, 64>
+    fn note(&self, results: &Cells<N, 64>, entry: Option<&Packet>, out: &mut Row<Syndrome, 64>)
         requires due { self.now.due ≡ Due.Absorb Round.B2 }
         requires results { AreResults N (packets_now self.now) (is_relayed (decision_now self.now)) results.now }
         requires entry { option_copied entry ≡ own_entry self.now.kept.table (decision_now self.now) (packets_now self.now) }
-        ensures { result.items ≡ noted_by self.now.kept (made self.now.kept self.now.heard) }
+        ensures { out.new.items ≡ noted_by self.now.kept (made self.now.kept self.now.heard) }
     {
-        let mut syndromes = Row::new();
         let seen = Seen {
             me: self.kept.me(),
             cycle: self.kept.cycle(),
@@ -80,9 +83,57 @@ impl<const N: usize> Element<N> {
             packet_results: results,
             entry,
         };
-        note(&seen, &mut syndromes);
-        syndromes
+        note(&seen, out);
     }
+}
+
+/// What came of a cycle, beside its pattern, its decision and its notes.
+#[derive(Drop)]
+struct Ended {
+    cycle: u32,
+    packet: Option<Packet>,
+    handed: Option<(Proc, Handed)>,
+    update: Option<Outcome3>,
+}
+
+/// Writes the record of a cycle in place of that of the last one.
+fn tell<const N: usize>(
+    last: &mut Option<CycleRecord<N>>,
+    pending: &Pending<N>,
+    ended: &Ended,
+    notes: &[Syndrome],
+)
+    requires { length notes.now ≤ 64 }
+    ensures { option_map told_of last.new ≡ Some (told_in pending.now ended.now notes.now) }
+{
+    match last {
+        Some(told) => retell(told, pending, ended, notes),
+        None => {
+            let mut told = CycleRecord::default();
+            retell(&mut told, pending, ended, notes);
+            *last = Some(told);
+        }
+    }
+}
+
+/// Writes the record of a cycle over another one.
+fn retell<const N: usize>(
+    told: &mut CycleRecord<N>,
+    pending: &Pending<N>,
+    ended: &Ended,
+    notes: &[Syndrome],
+)
+    requires { length notes.now ≤ 64 }
+    ensures { told_of told.new ≡ told_in pending.now ended.now notes.now }
+{
+    told.cycle = ended.cycle;
+    told.pattern = pending.pattern;
+    told.decision = pending.decision;
+    told.packet = ended.packet;
+    told.handed = ended.handed;
+    told.update = ended.update;
+    told.syndromes.clear();
+    let _ = told.syndromes.try_extend_from_slice(notes);
 }
 
 /// The entry of a cycle: the packet of an exchange, if there is one and it has a result.
@@ -99,7 +150,7 @@ fn entry_of<const N: usize>(
     ensures { result ≡ own_entry table.now decision.now packets.now }
 {
     match decision {
-        Decision::Exchange(service) => entry(table, service, &packets.echo(), results),
+        Decision::Exchange(service) => entry(table, service, packets.copies(), results),
         _ => None,
     }
 }

@@ -1,5 +1,5 @@
 -- The numbers below a bound, one more, and those of them that pass a test.
-use Rattle.std.proofs.Common.{◌≡◌, ℕ, ◌+◌, Bool, true, false, cond, List, [], ◌∷◌, ◌++◌, map, refl, ap, sym, ◌∙◌, arith, append_assoc}
+use Rattle.std.proofs.Common.{◌≡◌, ℕ, ◌+◌, Bool, true, false, cond, List, [], ◌∷◌, ◌++◌, map, refl, ap, sym, ◌∙◌, arith, append_assoc, append-nil}
 use Rattle.std.specs.Prelude.{filter}
 use Rattle.std.proofs.lemmas.List.{map-id, map-append}
 use Rattle.std.proofs.lemmas.List.FromFn.{map-range_with_len_more}
@@ -25,6 +25,15 @@ pub made_below-more : {A : Type 0} (f : ℕ → A) (p : ℕ → Bool) (k : ℕ)
 made_below-more f p k =
     ap (map f) (filter_below-more p k) ∙ map-append f (filter p (below k)) (cond (p k) (k ∷ []) [])
     ∙ ap (λ l. map f (filter p (below k)) ++ l) (one_made f (p k) k)
+
+-- none passes
+none_made : {A : Type 0} (f : ℕ → A) (p : ℕ → Bool) (ks : List ℕ) → ((k : ℕ) → p k ≡ false) → map f (filter p ks) ≡ []
+none_made f p [] fails = refl
+none_made f p (k ∷ ks) fails = ap (λ b. map f (cond b (k ∷ filter p ks) (filter p ks))) (fails k) ∙ none_made f p ks fails
+
+-- so that nothing was appended
+pub none_appended : {A : Type 0} (f : ℕ → A) (p : ℕ → Bool) (ks : List ℕ) (list : List A) → ((k : ℕ) → p k ≡ false) → list ≡ list ++ map f (filter p ks)
+none_appended f p ks list fails = sym (append-nil list) ∙ ap (λ l. list ++ l) (sym (none_made f p ks fails))
 
 -- what was appended so far, and one entry more
 pub appended_more : {A : Type 0} (f : ℕ → A) (p : ℕ → Bool) (k : ℕ) (start list more : List A) (b : Bool) (x : A)

@@ -86,6 +86,9 @@ fn off_words<const N: usize, const B: usize>(
     ensures { (s : ℕ) → s < N → has result s ≡ is_off_word x.now counts.now of s }
 {
     let mut off = Set8::EMPTY;
+    if counts.bits == 0 {
+        return off;
+    }
     for k in 0..N {
         let sender = Ne::at(k);
         let is_off = is_off_word(x, results, counts, me, of, sender);

@@ -58,6 +58,9 @@ pub(crate) fn note_each(out: &mut Notes, heading: &Heading, accused: &Accused, n
     ensures items { out.new.items ≡ out.old.items ++ entries_about heading.now accused.now n nes.now }
     ensures few { length out.new.items ≤ length out.old.items + n }
 {
+    if nes.bits == 0 {
+        return;
+    }
     for k in 0..n {
         let entry = entry_about(heading, accused, Ne::at(k as usize));
         push_if(out, nes.has(k), entry);

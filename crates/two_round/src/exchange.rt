@@ -126,6 +126,13 @@ impl<const N: usize, const B: usize> TwoRound<N, B> {
         self.copies
     }
 
+    /// The first-round copies where they lie, its own value included.
+    pub fn copies(&self) -> &Cells<N, B>
+        ensures { result.now ≡ self.now.copies }
+    {
+        &self.copies
+    }
+
     /// Takes the copies that another element sent in the second round.
     pub fn take_echo(&mut self, from: Ne, cells: Cells<N, B>)
         requires among { from < N }
@@ -255,13 +262,25 @@ impl<const N: usize, const B: usize> TwoRound<N, B> {
         ensures results { result ≡ each_below N (result_of sources self.now) }
         ensures few { N ≤ 5 }
     {
-        let elements = self.copies.len();
-        let mut results = Cells::absent();
-        for source in 0..elements {
+        // every place is written anew
+        let mut results = self.copies;
+        self.results_into(sources, &mut results);
+        results
+    }
+
+    /// Like `results_of`, but writes the results in place of other ones.
+    pub fn results_into(&self, sources: Set8, results: &mut Cells<N, B>)
+        ensures results { results.new ≡ each_below N (result_of sources self.now) }
+        ensures few { N ≤ 5 }
+    {
+        // there are as many places as copies, which only a call of them tells
+        let _places = results.len();
+        for source in 0..self.copies.len() {
             if sources.has(source as u8) {
                 results.set(source, self.voted(source));
+            } else {
+                results.set(source, None);
             }
         }
-        results
     }
 }

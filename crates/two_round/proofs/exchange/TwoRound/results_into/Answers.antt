@@ -1,7 +1,7 @@
 use Rattle.std.proofs.Common.{None, arith}
 use Rattle.std.proofs.lemmas.List.FromFn.{fill_by_all}
 use Rattle.two_round.specs.Echoes.{result_of}
-use Rattle.two_round.proofs.exchange.TwoRound.results_of.Goals as goal
+use Rattle.two_round.proofs.exchange.TwoRound.results_into.Goals as goal
 
 pub returns-clause-results : goal.returns-clause-results
 returns-clause-results g c =

@@ -13,7 +13,7 @@ use Rattle.element_core.specs.Told.{told_of}
 use Rattle.element_core.proofs.Ended.{made_now, entry_row}
 use Rattle.element_core.proofs.Holding.{few_by}
 use Rattle.element_core.proofs.Results.{pattern_results}
-use Rattle.element_core.proofs.element.Element.noted.Goals as goal
+use Rattle.element_core.proofs.element.Element.note.Goals as goal
 
 pub note-requires : goal.note-requires
 note-requires g c =
