@@ -1,4 +1,3 @@
-use Rattle.std.proofs.Common.{inl, inr, arith}
 use Rattle.cluster.proofs.Sizes.{station_fits}
 use Rattle.cluster.proofs.faults.play.Goals as goal
 

@@ -1,4 +1,4 @@
-use Rattle.std.proofs.Common.{rules, ◌≡◌, inl, inr, arith}
+use Rattle.std.proofs.Common.{rules, ◌≡◌, arith}
 use Rattle.element_core.specs.ElementValue.{fresh}
 use Rattle.cluster.proofs.Places.{below_five}
 use Rattle.cluster.proofs.ActSteps.{each_push, elements_are}

@@ -1,4 +1,4 @@
-use Rattle.std.proofs.Common.{◌∙◌, inl, inr, arith}
+use Rattle.std.proofs.Common.{◌∙◌}
 use Rattle.cluster.specs.Carrying.{bytes_in}
 use Rattle.cluster.proofs.RoundLaws.{placed_still, exchanged, has_left, plays_left}
 use Rattle.cluster.proofs.Sizes.{station_fits}

@@ -1,4 +1,4 @@
-use Rattle.std.proofs.Common.{length, ap, sym, subst, ◌∙◌, inl, inr, arith, ◌≡◌, List, refl}
+use Rattle.std.proofs.Common.{length, ap, sym, subst, ◌∙◌, ◌≡◌, List, refl}
 use Rattle.cluster.specs.declared.stations.Station.{Station}
 use Rattle.cluster.specs.ClusterValue.{all_acted, all_answers}
 use Rattle.cluster.specs.Stations.{AllRest, elements_of}

@@ -1,4 +1,4 @@
-use Rattle.std.proofs.Common.{List, length, ap, sym, subst, ◌∙◌, inl, inr, arith}
+use Rattle.std.proofs.Common.{List, length, ap, sym, subst, ◌∙◌}
 use Rattle.ftpp_base.specs.declared.element.Round.TheVariants.{A1}
 use Rattle.element_core.specs.declared.Due.TheVariants.{Emit}
 use Rattle.cluster.specs.declared.stations.Station.{Station}
