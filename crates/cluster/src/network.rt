@@ -106,22 +106,22 @@ impl<const N: usize> Network<N> {
         })
     }
 
-    /// The acts of the processors, in order, and the answers to them.
-    pub(crate) fn act(&mut self, acts: &[Act], cycle: u32) -> Row<ActAnswer, MOST_ACTS>
+    /// The acts of the processors, in order; the answers to them are written over those that stood there.
+    pub(crate) fn act(&mut self, acts: &[Act], cycle: u32, answers: &mut Row<ActAnswer, MOST_ACTS>)
         requires size { (N ≡ 4) ⊎ (N ≡ 5) }
         requires count { length self.old.stations.items ≡ N }
         requires few { length acts.now ≤ MOST_ACTS }
         requires rest { AllRest cycle self.old.stations.items }
         requires among { AllByRecursion (IsActAmong N) acts.now }
         ensures elements { elements_of self.new.stations.items ≡ all_acted (elements_of self.old.stations.items) acts.now }
-        ensures answers { result.items ≡ all_answers (elements_of self.old.stations.items) acts.now }
+        ensures answers { answers.new.items ≡ all_answers (elements_of self.old.stations.items) acts.now }
         ensures rest { AllRest cycle self.new.stations.items }
         ensures count { length self.new.stations.items ≡ N }
         ensures delivered { delivered_on self.new ≡ delivered_on self.old }
         ensures whole { AllByRecursion IsAct acts.now }
     {
         are_acts(acts);
-        act_all(self.stations.as_mut_slice(), acts, cycle)
+        act_all(self.stations.as_mut_slice(), acts, cycle, answers);
     }
 
     /// An element rejoins with the agreed state of the others. Refused, and nothing changes, exactly where they have none.

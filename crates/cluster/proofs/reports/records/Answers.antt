@@ -1,10 +1,12 @@
-use Rattle.std.proofs.Common.{rules, sym, subst, inl, inr, arith}
-use Rattle.std.specs.Prelude.{IsSome}
-use Rattle.cluster.proofs.Sizes.{station_fits}
+use Rattle.std.proofs.Common.{◌≡◌, length, map, ap, ◌∙◌, Some}
+use Rattle.element_core.specs.Told.{told_of}
+use Rattle.cluster.proofs.Told.{all_rows}
+use Rattle.cluster.proofs.Written.{row_written}
 use Rattle.cluster.proofs.reports.records.Goals as goal
 
-pub record_of-requires : goal.record_of-requires
-record_of-requires g c = (station_fits g.row.N c.requires.size, (elim c.requires.size [ inl e ↦ rw e (omega arith) | inr e ↦ rw e (omega arith) ], subst (λ s. IsSome s.element.last) (sym c.station-item.is) (c.requires.ended c.loop-station.station-index c.station-item.result c.loop-station-test.true)))
-
-pub push-requires : goal.push-requires
-push-requires g c = (elim c.requires.size [ inl e ↦ rw e (omega arith) | inr e ↦ rw e (omega arith) ], search rules)
+pub returns : goal.returns
+returns g c =
+    let fitted = c.fit_rows.new.rows.items in
+    let rows = c.write_rows.new.rows in
+    let whole : length rows ≡ length fitted = c.write_rows.auto.rows ∙ ap length c.as_mut_slice.ensures.value in
+    ap (map (λ r. Some (told_of r))) (row_written fitted rows whole) ∙ all_rows rows c.args.stations.now (whole ∙ c.fit_rows.ensures) c.write_rows.ensures
