@@ -17,7 +17,7 @@ ghost use Rattle.ftpp_top.specs.FollowsScript.{StandsAt};
 ghost use Rattle.ftpp_top.specs.Playing.{IsReady, IsBegun, IsTaken, IsShown, IsRejoinOf, IsCycleOf, told_by};
 
 use crate::due::due_acts;
-use cluster::Cluster;
+use cluster::{Cluster, empty_report};
 use config_table::Table;
 use element_core::{CycleReport, Rejoined};
 use fault_script::Player;
@@ -38,13 +38,7 @@ pub struct Playing<'a, const N: usize> {
     pub rejoins: &'a [(u32, Option<Ne>)],
     /// The acts of the last cycle.
     pub host: HostActs,
-}
-
-/// A cycle as it was played: the element that was asked to rejoin just before it, with the answer, and the report. Its acts
-/// stay with the cluster, since they are large.
-#[derive(Drop)]
-pub struct PlayedCycle<const N: usize> {
-    pub rejoin: Option<(Ne, Rejoined)>,
+    /// The report of the last cycle. One is kept for all cycles, since it is large.
     pub report: CycleReport<N>,
 }
 
@@ -64,19 +58,20 @@ fn step<const N: usize, F: Fabric>(
     acts: &HostActs,
     fabric: &mut F,
     player: &mut Player<'_>,
-) -> CycleReport<N>
+    report: &mut CycleReport<N>,
+)
     requires cycles { 1 ≤ cluster.old.remaining }
     requires acts { length acts.now.items ≤ cluster.old.acts_left }
     requires among { AllByRecursion (IsActAmong N) acts.now.items }
     ensures next { cluster.new ≡ after_frames cluster.old acts.now.items cluster.new.delivered }
-    ensures report { Reports cluster.old acts.now.items cluster.new result }
+    ensures report { Reports cluster.old acts.now.items cluster.new report.new }
     ensures step { IsTrue (F.honest fabric.old) → Follows cluster.old → IsStepOfRun cluster.old acts.now.items cluster.new }
     ensures plays { IsTrue (F.honest fabric.old) → PlaysOf cluster.old acts.now.items cluster.new (Some (told_by player.old)) (Some (told_by player.new)) }
     ensures silent { cluster.old.faulty ≡ None → Some (told_by player.new) ≡ Some (told_by player.old) }
     ensures honest { IsTrue (F.honest fabric.old) → IsTrue (F.honest fabric.new) }
     ensures told { TellsMore (F.told fabric.old) (cycle_entries cluster.old.first.n (length cluster.old.journal) cluster.new.delivered) (F.told fabric.new) }
 {
-    cluster.cycle(acts, fabric, player)
+    cluster.cycle_into(acts, fabric, player, report);
 }
 
 /// The same, with the steps of the elements in threads of their own, where they can be had.
@@ -87,19 +82,20 @@ fn step_split<const N: usize, R: Threads + Sync, F: Fabric, G: Gate>(
     fabric: &mut F,
     player: &mut Player<'_>,
     gate: &G,
-) -> CycleReport<N>
+    report: &mut CycleReport<N>,
+)
     requires cycles { 1 ≤ cluster.old.remaining }
     requires acts { length acts.now.items ≤ cluster.old.acts_left }
     requires among { AllByRecursion (IsActAmong N) acts.now.items }
     ensures next { cluster.new ≡ after_frames cluster.old acts.now.items cluster.new.delivered }
-    ensures report { Reports cluster.old acts.now.items cluster.new result }
+    ensures report { Reports cluster.old acts.now.items cluster.new report.new }
     ensures step { IsTrue (F.honest fabric.old) → Follows cluster.old → IsStepOfRun cluster.old acts.now.items cluster.new }
     ensures plays { IsTrue (F.honest fabric.old) → PlaysOf cluster.old acts.now.items cluster.new (Some (told_by player.old)) (Some (told_by player.new)) }
     ensures silent { cluster.old.faulty ≡ None → Some (told_by player.new) ≡ Some (told_by player.old) }
     ensures honest { IsTrue (F.honest fabric.old) → IsTrue (F.honest fabric.new) }
     ensures told { TellsMore (F.told fabric.old) (cycle_entries cluster.old.first.n (length cluster.old.journal) cluster.new.delivered) (F.told fabric.new) }
 {
-    cluster.cycle_split(rt, acts, fabric, player, gate)
+    cluster.cycle_split_into(rt, acts, fabric, player, gate, report);
 }
 
 /// What a script that can be played asks of a cluster: each clause follows from the first, and nothing is done.
@@ -142,6 +138,7 @@ impl<'a, const N: usize> Playing<'a, N> {
             acts: script.acts.as_slice(),
             rejoins: script.rejoins.as_slice(),
             host: Row::new(),
+            report: empty_report(),
         })
     }
 
@@ -206,8 +203,8 @@ impl<'a, const N: usize> Playing<'a, N> {
         self.acts = due_acts(self.acts, cycle, &mut self.host);
     }
 
-    /// The next cycle, by one thread.
-    pub(crate) fn next<F: Fabric>(&mut self, fabric: &mut F) -> PlayedCycle<N>
+    /// The next cycle, by one thread. It gives the element that was asked to rejoin just before it, with the answer.
+    pub(crate) fn next<F: Fabric>(&mut self, fabric: &mut F) -> Option<(Ne, Rejoined)>
         requires size { (N ≡ 4) ⊎ (N ≡ 5) }
         requires ready { IsReady N (plan_of self.old.script.now) self.old.cluster self.old.acts.now self.old.rejoins.now }
         requires more { 1 ≤ self.old.cluster.remaining }
@@ -215,15 +212,21 @@ impl<'a, const N: usize> Playing<'a, N> {
         ensures first { self.new.cluster.first ≡ self.old.cluster.first }
         ensures cycle { length self.new.cluster.journal ≡ length self.old.cluster.journal + 1 }
         ensures ready { IsReady N (plan_of self.new.script.now) self.new.cluster self.new.acts.now self.new.rejoins.now }
-        ensures shown { IsShown self.new.host.items result.report }
-        ensures run { IsTrue (F.honest fabric.old) → (table : TableValue) → IsCycleOf table (plan_of self.old.script.now) self.old.cluster (told_by self.old.player) result.rejoin self.new.host.items self.new.cluster result.report (told_by self.new.player) }
+        ensures shown { IsShown self.new.host.items self.new.report }
+        ensures run { IsTrue (F.honest fabric.old) → (table : TableValue) → IsCycleOf table (plan_of self.old.script.now) self.old.cluster (told_by self.old.player) result self.new.host.items self.new.cluster self.new.report (told_by self.new.player) }
         ensures honest { IsTrue (F.honest fabric.old) → IsTrue (F.honest fabric.new) }
         ensures told { TellsMore (F.told fabric.old) (cycle_frames N (length self.old.cluster.journal) (frame_at self.new.cluster.delivered)) (F.told fabric.new) }
     {
         let rejoin = self.rejoin();
         self.take_acts();
-        let report = step(&mut self.cluster, &self.host, fabric, &mut self.player);
-        PlayedCycle { rejoin, report }
+        step(
+            &mut self.cluster,
+            &self.host,
+            fabric,
+            &mut self.player,
+            &mut self.report,
+        );
+        rejoin
     }
 
     /// The next cycle, with the steps of the elements in threads of their own, where they can be had.
@@ -232,7 +235,7 @@ impl<'a, const N: usize> Playing<'a, N> {
         rt: &R,
         fabric: &mut F,
         gate: &G,
-    ) -> PlayedCycle<N>
+    ) -> Option<(Ne, Rejoined)>
         requires size { (N ≡ 4) ⊎ (N ≡ 5) }
         requires ready { IsReady N (plan_of self.old.script.now) self.old.cluster self.old.acts.now self.old.rejoins.now }
         requires more { 1 ≤ self.old.cluster.remaining }
@@ -240,21 +243,22 @@ impl<'a, const N: usize> Playing<'a, N> {
         ensures first { self.new.cluster.first ≡ self.old.cluster.first }
         ensures cycle { length self.new.cluster.journal ≡ length self.old.cluster.journal + 1 }
         ensures ready { IsReady N (plan_of self.new.script.now) self.new.cluster self.new.acts.now self.new.rejoins.now }
-        ensures shown { IsShown self.new.host.items result.report }
-        ensures run { IsTrue (F.honest fabric.old) → (table : TableValue) → IsCycleOf table (plan_of self.old.script.now) self.old.cluster (told_by self.old.player) result.rejoin self.new.host.items self.new.cluster result.report (told_by self.new.player) }
+        ensures shown { IsShown self.new.host.items self.new.report }
+        ensures run { IsTrue (F.honest fabric.old) → (table : TableValue) → IsCycleOf table (plan_of self.old.script.now) self.old.cluster (told_by self.old.player) result self.new.host.items self.new.cluster self.new.report (told_by self.new.player) }
         ensures honest { IsTrue (F.honest fabric.old) → IsTrue (F.honest fabric.new) }
         ensures told { TellsMore (F.told fabric.old) (cycle_frames N (length self.old.cluster.journal) (frame_at self.new.cluster.delivered)) (F.told fabric.new) }
     {
         let rejoin = self.rejoin();
         self.take_acts();
-        let report = step_split(
+        step_split(
             rt,
             &mut self.cluster,
             &self.host,
             fabric,
             &mut self.player,
             gate,
+            &mut self.report,
         );
-        PlayedCycle { rejoin, report }
+        rejoin
     }
 }

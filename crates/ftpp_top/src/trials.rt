@@ -47,8 +47,8 @@ fn sum_cycle<const N: usize, F: Fabric>(
         → IsSumming r (length playing.old.cluster.journal) playing.old.cluster (told_by playing.old.player) totals.old before (F.told fabric.old)
         → IsSumming r (suc (length playing.old.cluster.journal)) playing.new.cluster (told_by playing.new.player) totals.new before (F.told fabric.new) }
 {
-    let played = playing.next(fabric);
-    totals.add(&played.report);
+    let _rejoin = playing.next(fabric);
+    totals.add(&playing.report);
 }
 
 /// The totals of all cycles, by one thread.

@@ -82,9 +82,9 @@ fn suspect_cycle<const N: usize, F: Fabric>(
         → IsDiagnosing r (length playing.old.cluster.journal) playing.old.cluster (told_by playing.old.player) suspects.old.items before (F.told fabric.old)
         → IsDiagnosing r (suc (length playing.old.cluster.journal)) playing.new.cluster (told_by playing.new.player) suspects.new.items before (F.told fabric.new) }
 {
-    let played = playing.next(fabric);
-    begin_anew::<N>(suspects, &played.rejoin);
-    note_cycle(suspects.as_mut_slice(), played.report.rows.as_slice());
+    let rejoin = playing.next(fabric);
+    begin_anew::<N>(suspects, &rejoin);
+    note_cycle(suspects.as_mut_slice(), playing.report.rows.as_slice());
 }
 
 /// The suspects after all cycles.

@@ -48,10 +48,10 @@ fn report_cycle<const N: usize, F: Fabric, K: Sink>(
     ensures fault { OnErr result (Rose (K.faults out.old) (K.faults out.new)) }
     ensures faults { K.faults out.old ≤ K.faults out.new }
 {
-    let played = playing.next(fabric);
-    totals.add(&played.report);
+    let rejoin = playing.next(fabric);
+    totals.add(&playing.report);
     text.clear();
-    cycle_text(played.rejoin, &playing.host, &played.report, text);
+    cycle_text(rejoin, &playing.host, &playing.report, text);
     write_all(out, text.bytes())
 }
 

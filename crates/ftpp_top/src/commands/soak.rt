@@ -53,8 +53,8 @@ fn sum_cycle_split<const N: usize, R: Threads + Sync, F: Fabric, G: Gate>(
         → IsSumming r (length playing.old.cluster.journal) playing.old.cluster (told_by playing.old.player) totals.old before (F.told fabric.old)
         → IsSumming r (suc (length playing.old.cluster.journal)) playing.new.cluster (told_by playing.new.player) totals.new before (F.told fabric.new) }
 {
-    let played = playing.next_split(rt, fabric, gate);
-    totals.add(&played.report);
+    let _rejoin = playing.next_split(rt, fabric, gate);
+    totals.add(&playing.report);
 }
 
 /// The totals of all cycles, with the steps of the elements in threads of their own, where they can be had.

@@ -43,7 +43,7 @@ fn trace_cycle<const N: usize, F: Fabric, K: Sink>(
     ensures faults { K.faults out.old ≤ K.faults out.new }
 {
     let cycle = playing.cluster.journal().len();
-    let _played = playing.next(fabric);
+    let _rejoin = playing.next(fabric);
     text.clear();
     cycle_lines(&playing.cluster, cycle, text);
     write_all(out, text.bytes())

@@ -5,15 +5,15 @@ use Rattle.ftpp_top.proofs.Reporting.{few_noted, summing_more}
 use Rattle.ftpp_top.proofs.trials.sum_cycle.Goals as goal
 
 pub returns-clause-bounded : goal.returns-clause-bounded
-returns-clause-bounded g c = c.add.ensures.bounded (few_noted c.next-played.result.report c.next-played.ensures.shown.whole)
+returns-clause-bounded g c = c.add.ensures.bounded (few_noted c.next-rejoin.new.self.report c.next-rejoin.ensures.shown.whole)
 
 pub returns-clause-sum : goal.returns-clause-sum
 returns-clause-sum g c honest r before e i =
     let s = c.args.playing.now in
-    let p = c.next-played.result in
-    let t = c.next-played.new.self in
-    let cycle : IsCycleOf r.table r.plan s.cluster (told_by s.player) p.rejoin t.host.items t.cluster p.report (told_by t.player) =
-    subst (λ (plan : Plan). IsCycleOf r.table plan s.cluster (told_by s.player) p.rejoin t.host.items t.cluster p.report (told_by t.player)) (sym e) (c.next-played.ensures.run honest r.table) in
-    let size : t.cluster.first.n ≡ g.row.N = ap (λ x. x.n) c.next-played.ensures.first ∙ c.requires.ready.elements in
-    summing_more {n = g.row.N} r (length s.cluster.journal) s.cluster t.cluster (told_by s.player) (told_by t.player) c.args.totals.now c.add.new.self before (g.F.Fabric.told c.args.fabric.now) (g.F.Fabric.told c.next-played.new.fabric) p.rejoin t.host.items p.report
-    i refl cycle size c.next-played.ensures.told c.add.ensures.sum
+    let asked = c.next-rejoin.result in
+    let t = c.next-rejoin.new.self in
+    let cycle : IsCycleOf r.table r.plan s.cluster (told_by s.player) asked t.host.items t.cluster t.report (told_by t.player) =
+    subst (λ (plan : Plan). IsCycleOf r.table plan s.cluster (told_by s.player) asked t.host.items t.cluster t.report (told_by t.player)) (sym e) (c.next-rejoin.ensures.run honest r.table) in
+    let size : t.cluster.first.n ≡ g.row.N = ap (λ x. x.n) c.next-rejoin.ensures.first ∙ c.requires.ready.elements in
+    summing_more {n = g.row.N} r (length s.cluster.journal) s.cluster t.cluster (told_by s.player) (told_by t.player) c.args.totals.now c.add.new.self before (g.F.Fabric.told c.args.fabric.now) (g.F.Fabric.told c.next-rejoin.new.fabric) asked t.host.items t.report
+    i refl cycle size c.next-rejoin.ensures.told c.add.ensures.sum

@@ -8,29 +8,29 @@ use Rattle.ftpp_top.proofs.Reporting.{few_noted, on_ok, on_err, reporting_more, 
 use Rattle.ftpp_top.proofs.commands.run.report_cycle.Goals as goal
 
 pub returns-clause-bounded : goal.returns-clause-bounded
-returns-clause-bounded g c = c.add.ensures.bounded (few_noted c.next-played.result.report c.next-played.ensures.shown.whole)
+returns-clause-bounded g c = c.add.ensures.bounded (few_noted c.next-rejoin.new.self.report c.next-rejoin.ensures.shown.whole)
 
 pub returns-clause-ok : goal.returns-clause-ok
 returns-clause-ok g c honest r first before e i =
     let s = c.args.playing.now in
-    let p = c.next-played.result in
-    let t = c.next-played.new.self in
-    let same : c.bytes.result.now ≡ cycle_lines p.rejoin t.host.items (report_told p.report) = c.bytes.ensures ∙ (c.cycle_text.ensures.text ∙ ap (λ (xs : List ℕ). xs ++ cycle_lines p.rejoin t.host.items (report_told p.report)) c.clear.ensures) in
-    let cycle : IsCycleOf r.table r.plan s.cluster (told_by s.player) p.rejoin t.host.items t.cluster p.report (told_by t.player) =
-    subst (λ (plan : Plan). IsCycleOf r.table plan s.cluster (told_by s.player) p.rejoin t.host.items t.cluster p.report (told_by t.player)) (sym e) (c.next-played.ensures.run honest r.table) in
-    let size : t.cluster.first.n ≡ g.row.N = ap (λ x. x.n) c.next-played.ensures.first ∙ c.requires.ready.elements in
-    on_ok c.write_all.result _ _ (λ w. reporting_more {n = g.row.N} r (length s.cluster.journal) s.cluster t.cluster (told_by s.player) (told_by t.player) c.args.totals.now c.add.new.self first (g.K.Sink.written c.args.out.now) (g.K.Sink.written c.write_all.new.sink) before (g.F.Fabric.told c.args.fabric.now) (g.F.Fabric.told c.next-played.new.fabric) p.rejoin t.host.items p.report i refl cycle size c.next-played.ensures.told c.add.ensures.sum (subst (λ (xs : List ℕ). Adds (g.K.Sink.written c.args.out.now) xs (g.K.Sink.written c.write_all.new.sink)) same w)) c.write_all.ensures.ok
+    let asked = c.next-rejoin.result in
+    let t = c.next-rejoin.new.self in
+    let same : c.bytes.result.now ≡ cycle_lines asked t.host.items (report_told t.report) = c.bytes.ensures ∙ (c.cycle_text.ensures.text ∙ ap (λ (xs : List ℕ). xs ++ cycle_lines asked t.host.items (report_told t.report)) c.clear.ensures) in
+    let cycle : IsCycleOf r.table r.plan s.cluster (told_by s.player) asked t.host.items t.cluster t.report (told_by t.player) =
+    subst (λ (plan : Plan). IsCycleOf r.table plan s.cluster (told_by s.player) asked t.host.items t.cluster t.report (told_by t.player)) (sym e) (c.next-rejoin.ensures.run honest r.table) in
+    let size : t.cluster.first.n ≡ g.row.N = ap (λ x. x.n) c.next-rejoin.ensures.first ∙ c.requires.ready.elements in
+    on_ok c.write_all.result _ _ (λ w. reporting_more {n = g.row.N} r (length s.cluster.journal) s.cluster t.cluster (told_by s.player) (told_by t.player) c.args.totals.now c.add.new.self first (g.K.Sink.written c.args.out.now) (g.K.Sink.written c.write_all.new.sink) before (g.F.Fabric.told c.args.fabric.now) (g.F.Fabric.told c.next-rejoin.new.fabric) asked t.host.items t.report i refl cycle size c.next-rejoin.ensures.told c.add.ensures.sum (subst (λ (xs : List ℕ). Adds (g.K.Sink.written c.args.out.now) xs (g.K.Sink.written c.write_all.new.sink)) same w)) c.write_all.ensures.ok
 
 pub returns-clause-err : goal.returns-clause-err
 returns-clause-err g c honest r first before e i =
     let s = c.args.playing.now in
-    let p = c.next-played.result in
-    let t = c.next-played.new.self in
-    let same : c.bytes.result.now ≡ cycle_lines p.rejoin t.host.items (report_told p.report) = c.bytes.ensures ∙ (c.cycle_text.ensures.text ∙ ap (λ (xs : List ℕ). xs ++ cycle_lines p.rejoin t.host.items (report_told p.report)) c.clear.ensures) in
-    let cycle : IsCycleOf r.table r.plan s.cluster (told_by s.player) p.rejoin t.host.items t.cluster p.report (told_by t.player) =
-    subst (λ (plan : Plan). IsCycleOf r.table plan s.cluster (told_by s.player) p.rejoin t.host.items t.cluster p.report (told_by t.player)) (sym e) (c.next-played.ensures.run honest r.table) in
-    let size : t.cluster.first.n ≡ g.row.N = ap (λ x. x.n) c.next-played.ensures.first ∙ c.requires.ready.elements in
+    let asked = c.next-rejoin.result in
+    let t = c.next-rejoin.new.self in
+    let same : c.bytes.result.now ≡ cycle_lines asked t.host.items (report_told t.report) = c.bytes.ensures ∙ (c.cycle_text.ensures.text ∙ ap (λ (xs : List ℕ). xs ++ cycle_lines asked t.host.items (report_told t.report)) c.clear.ensures) in
+    let cycle : IsCycleOf r.table r.plan s.cluster (told_by s.player) asked t.host.items t.cluster t.report (told_by t.player) =
+    subst (λ (plan : Plan). IsCycleOf r.table plan s.cluster (told_by s.player) asked t.host.items t.cluster t.report (told_by t.player)) (sym e) (c.next-rejoin.ensures.run honest r.table) in
+    let size : t.cluster.first.n ≡ g.row.N = ap (λ x. x.n) c.next-rejoin.ensures.first ∙ c.requires.ready.elements in
     let whole = c.requires.ready.cycles in
     let more = c.requires.more in
     let later : length s.cluster.journal < r.plan.cycles = omega (arith, whole, more, ap (λ x. x.cycles) e) in
-    on_err c.write_all.result _ _ (λ w. reporting_cut {n = g.row.N} r (length s.cluster.journal) s.cluster t.cluster (told_by s.player) (told_by t.player) c.args.totals.now c.add.new.self first (g.K.Sink.written c.args.out.now) (g.K.Sink.written c.write_all.new.sink) before (g.F.Fabric.told c.args.fabric.now) (g.F.Fabric.told c.next-played.new.fabric) p.rejoin t.host.items p.report i refl cycle size c.next-played.ensures.told later (subst (λ (xs : List ℕ). AddsPrefix (g.K.Sink.written c.args.out.now) xs (g.K.Sink.written c.write_all.new.sink)) same w)) c.write_all.ensures.prefix
+    on_err c.write_all.result _ _ (λ w. reporting_cut {n = g.row.N} r (length s.cluster.journal) s.cluster t.cluster (told_by s.player) (told_by t.player) c.args.totals.now c.add.new.self first (g.K.Sink.written c.args.out.now) (g.K.Sink.written c.write_all.new.sink) before (g.F.Fabric.told c.args.fabric.now) (g.F.Fabric.told c.next-rejoin.new.fabric) asked t.host.items t.report i refl cycle size c.next-rejoin.ensures.told later (subst (λ (xs : List ℕ). AddsPrefix (g.K.Sink.written c.args.out.now) xs (g.K.Sink.written c.write_all.new.sink)) same w)) c.write_all.ensures.prefix

@@ -9,14 +9,14 @@ returns-clause-ready g c =
     let s = c.args.self.now in
     let m = c.rejoin-rejoin.new.self in
     let t = c.take_acts.new.self in
-    ready_next g.row.N (plan_of s.script.now) (plan_of t.script.now) m.cluster t.cluster c.step-report.new.cluster m.acts.now t.acts.now c.take_acts.new.self.host.items m.rejoins.now t.rejoins.now c.rejoin-rejoin.ensures.begun c.take_acts.ensures.taken
-    c.take_acts.ensures.cluster (ap (λ x. plan_of x.now) (c.take_acts.ensures.script ∙ c.rejoin-rejoin.ensures.script)) (ap (λ x. x.now) c.take_acts.ensures.rejoins) c.step-report.ensures.next
+    ready_next g.row.N (plan_of s.script.now) (plan_of t.script.now) m.cluster t.cluster c.step.new.cluster m.acts.now t.acts.now c.take_acts.new.self.host.items m.rejoins.now t.rejoins.now c.rejoin-rejoin.ensures.begun c.take_acts.ensures.taken
+    c.take_acts.ensures.cluster (ap (λ x. plan_of x.now) (c.take_acts.ensures.script ∙ c.rejoin-rejoin.ensures.script)) (ap (λ x. x.now) c.take_acts.ensures.rejoins) c.step.ensures.next
 
 pub returns-clause-shown : goal.returns-clause-shown
 returns-clause-shown g c =
     let m = c.rejoin-rejoin.new.self in
     let t = c.take_acts.new.self in
-    shown_by t.cluster c.step-report.new.cluster c.take_acts.new.self.host.items c.step-report.result (ap (λ x. x.first.n) c.take_acts.ensures.cluster ∙ c.rejoin-rejoin.ensures.begun.elements) c.step-report.ensures.next c.step-report.ensures.report
+    shown_by t.cluster c.step.new.cluster c.take_acts.new.self.host.items c.step.new.report (ap (λ x. x.first.n) c.take_acts.ensures.cluster ∙ c.rejoin-rejoin.ensures.begun.elements) c.step.ensures.next c.step.ensures.report
 
 pub returns-clause-run : goal.returns-clause-run
 returns-clause-run g c honest table =
@@ -25,14 +25,14 @@ returns-clause-run g c honest table =
     let t = c.take_acts.new.self in
     let row = c.take_acts.new.self.host.items in
     let its = its_acts g.row.N (plan_of s.script.now) m.cluster m.acts.now t.acts.now row m.rejoins.now c.rejoin-rejoin.ensures.begun c.take_acts.ensures.taken in
-    cycle_next table (plan_of s.script.now) s.cluster m.cluster t.cluster c.step-report.new.cluster row c.rejoin-rejoin.result c.step-report.result (told_by s.player) (told_by t.player) (told_by c.step-report.new.player)
+    cycle_next table (plan_of s.script.now) s.cluster m.cluster t.cluster c.step.new.cluster row c.rejoin-rejoin.result c.step.new.report (told_by s.player) (told_by t.player) (told_by c.step.new.player)
     (c.rejoin-rejoin.ensures.run table) c.rejoin-rejoin.ensures.journal its c.take_acts.ensures.cluster (ap told_by (c.take_acts.ensures.player ∙ c.rejoin-rejoin.ensures.player))
-    c.step-report.ensures.next (c.step-report.ensures.step honest) c.step-report.ensures.report (c.step-report.ensures.plays honest) c.step-report.ensures.silent
+    c.step.ensures.next (c.step.ensures.step honest) c.step.ensures.report (c.step.ensures.plays honest) c.step.ensures.silent
 
 pub returns-clause-told : goal.returns-clause-told
 returns-clause-told g c =
     let s = c.args.self.now in
     let m = c.rejoin-rejoin.new.self in
     let t = c.take_acts.new.self in
-    told_next g.row.N s.cluster m.cluster t.cluster c.step-report.new.cluster (g.F.Fabric.told c.args.fabric.now) (g.F.Fabric.told c.step-report.new.fabric) c.requires.size c.rejoin-rejoin.ensures.begun.elements c.rejoin-rejoin.ensures.journal c.take_acts.ensures.cluster
-    c.step-report.ensures.told
+    told_next g.row.N s.cluster m.cluster t.cluster c.step.new.cluster (g.F.Fabric.told c.args.fabric.now) (g.F.Fabric.told c.step.new.fabric) c.requires.size c.rejoin-rejoin.ensures.begun.elements c.rejoin-rejoin.ensures.journal c.take_acts.ensures.cluster
+    c.step.ensures.told
