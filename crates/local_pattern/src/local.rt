@@ -1,6 +1,6 @@
 //! The pattern of one element: an entry for each of its eight ports.
 
-ghost use Rattle.std.specs.Prelude.{◌≡◌, ◌<◌, ◌+◌, ◌*◌, ◌++◌, length, take, drop, replicate, slice_set, slice_index_or, option_map, Some, IfSome, IsNone};
+ghost use Rattle.std.specs.Prelude.{◌≡◌, ◌<◌, ◌+◌, ◌*◌, ◌++◌, length, take, drop, replicate, slice_set, slice_index_or, option_map, Some, IfSome, IsSome, IsNone, ◌↔◌};
 ghost use Rattle.local_pattern.specs.Pattern.{IsPlain, column_bytes, entry_bytes, read_column, quiet, quiet_column};
 
 use crate::Entry;
@@ -90,6 +90,7 @@ impl LocalPattern {
     /// What a port shows, lent; None for a number that is no port.
     #[tactic(auto, using(std::proofs::lemmas::List::get_or_past))]
     pub fn peek(&self, port: u8) -> Option<&Entry>
+        ensures here { IsSome result ↔ (port < 8) }
         ensures some { IfSome result (λ entry. entry.now ≡ slice_index_or self.now port quiet) }
         ensures none { IsNone result → slice_index_or self.now port quiet ≡ quiet }
     {

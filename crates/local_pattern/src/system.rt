@@ -1,6 +1,6 @@
 //! The agreed pattern: what the ports of all elements show.
 
-ghost use Rattle.std.specs.Prelude.{◌≡◌, ◌<◌, [], length, replicate, slice_set, slice_index_or, option_map, IfSome, IsNone};
+ghost use Rattle.std.specs.Prelude.{◌≡◌, ◌<◌, [], length, replicate, slice_set, slice_index_or, option_map, IfSome, IsSome, IsNone, ◌↔◌};
 ghost use Rattle.local_pattern.specs.Pattern.{entry_of, quiet, quiet_column, read_column};
 
 use crate::spelling::QUIET;
@@ -81,6 +81,7 @@ impl<const N: usize> SystemPattern<N> {
     /// What a processor's port shows, lent; None for a processor that is not there.
     #[tactic(auto, using(std::proofs::lemmas::List::get_or_past))]
     pub fn peek(&self, proc: Proc) -> Option<&Entry>
+        ensures here { IsSome result ↔ ((proc.ne < N) × (proc.port < 8)) }
         ensures some { IfSome result (λ entry. entry.now ≡ entry_of self.now proc) }
         ensures none { IsNone result → entry_of self.now proc ≡ quiet }
     {
