@@ -32,7 +32,7 @@ use Rattle.syndrome_log.specs.Log.{noted}
 use Rattle.element_core.specs.Cycle.{is_delivered, receivers}
 use Rattle.element_core.specs.Element.{made}
 use Rattle.element_notes.specs.Notes.{notes_of}
-use Rattle.element_core.specs.Noted.{is_off_copy, is_off_relay, off_copies, off_by, off_relays, absent_ones, says_full_at, full_ones, is_off_value, off_values, noted_by, own_entry_row}
+use Rattle.element_core.specs.Noted.{is_off_copy, is_off_relay, off_copies, off_by, off_relays, absent_ones, says_full_at, full_ones, is_off_value, off_values, own_entry_row}
 use Rattle.element_core.specs.Phases.{FewNotes}
 use Rattle.element_core.specs.Sent.{is_relayed}
 use Rattle.element_core.specs.Syndromes.{accused_where, stands_at, is_left_out}

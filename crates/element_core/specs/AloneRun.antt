@@ -1,16 +1,15 @@
 -- One element over a whole run: it starts from its part of the table, and then takes only what is its own.
 use Rattle.std.specs.Prelude.{◌≡◌, ℕ, ◌<◌, Bool, ◌==◌, List, [], ◌∷◌, filter, Some, if◌then◌else◌}
 use Rattle.std.specs.List.{AllByRecursion, fold}
-use Rattle.ftpp_base.specs.Lists.{change_at, is_this}
+use Rattle.ftpp_base.specs.Lists.{is_this}
 use Rattle.ftpp_base.specs.declared.element.Proc.{Proc}
 use Rattle.packet_format.specs.declared.acts.Act.{Act}
 use Rattle.packet_format.specs.declared.acts.Act.TheVariants.{Post, Read}
 use Rattle.packet_format.specs.declared.acts.ActAnswer.{ActAnswer}
-use Rattle.packet_format.specs.declared.acts.ActAnswer.TheVariants.{Posted as Accepted, PostFull}
-use Rattle.config_table.specs.Table.{TableValue, IsValid, out_limit}
-use Rattle.processor_buffers.specs.Queues.{Queues, first, has_out_room, after_post, after_read}
+use Rattle.config_table.specs.Table.{TableValue, IsValid}
+use Rattle.processor_buffers.specs.Queues.{Queues}
 pub use Rattle.element_ports.specs.PortQueues.{own_act, own_answer}
-use Rattle.element_core.specs.Processors.{empty_ports, port_queues, ports_of, read_answer}
+use Rattle.element_core.specs.Processors.{empty_ports, ports_of}
 use Rattle.element_core.specs.Cycle.{State, Input, start, after_rejoin, step}
 use Rattle.element_core.specs.Run.{Journal, run}
 use Rattle.element_core.specs.Syndromes.{Relays}

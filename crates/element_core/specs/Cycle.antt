@@ -1,12 +1,9 @@
 -- One cycle of all elements: the state before it, what comes from outside, the state after it and what it showed.
-use Rattle.std.specs.Prelude.{ℕ, ◌+◌, Bool, ◌||◌, ◌==◌, List, [], filter, Option, Some, None, if◌then◌else◌}
+use Rattle.std.specs.Prelude.{ℕ, ◌+◌, ◌==◌, List, Option, Some, None, if◌then◌else◌}
 use Rattle.std.specs.List.{fold}
 use Rattle.ftpp_base.specs.Lists.{each_below, cell_at}
-use Rattle.ftpp_base.specs.Sets.{has}
 use Rattle.ftpp_base.specs.declared.element.Proc.{Proc}
-use Rattle.ftpp_base.specs.declared.sets.Set8.{Set8}
 use Rattle.packet_format.specs.declared.Packet.{Packet}
-use Rattle.packet_format.specs.declared.Delivered.{Delivered}
 use Rattle.packet_format.specs.declared.acts.Act.{Act}
 use Rattle.packet_format.specs.declared.acts.ActAnswer.{ActAnswer}
 use Rattle.bit_vote.specs.Vote.{Cell}
@@ -21,12 +18,12 @@ use Rattle.flag_vote.specs.Flags.{Pattern, voted_flags}
 use Rattle.scoreboard.specs.Board.{Scoreboard, empty_scoreboard, after_update}
 use Rattle.scoreboard.specs.Choice.{scoreboard_decision, scoreboard_after}
 use Rattle.processor_buffers.specs.declared.Handed.{Handed}
-use Rattle.processor_buffers.specs.Queues.{Queues, after_delivery, handed_by}
+use Rattle.processor_buffers.specs.Queues.{handed_by}
 use Rattle.table_update.specs.declared.Update.{Update}
 use Rattle.table_update.specs.declared.Applied.{Applied}
 use Rattle.table_update.specs.declared.Applied.TheVariants as applied_variant
 use Rattle.table_update.specs.Updates.{read_update, applied, table_after, named_group}
-use Rattle.data_exchange.specs.Entries.{senders, members_vote, entry_at, own_row, packet_in, member_at}
+use Rattle.data_exchange.specs.Entries.{members_vote, entry_at, own_row, packet_in, member_at}
 pub use Rattle.config_table.specs.Members.{is_admitted, admitted_members, is_delivered, receivers}
 pub use Rattle.element_ports.specs.PortQueues.{delivered_by, after_entry}
 use Rattle.element_core.specs.declared.Outcome3.{Outcome3}

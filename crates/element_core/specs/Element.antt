@@ -1,31 +1,29 @@
 -- One element by itself: what it keeps between cycles, what it hears in a cycle, and what it makes of it.
-use Rattle.std.specs.Prelude.{ℕ, ◌+◌, ◌==◌, List, filter, slice_set, Option, Some, None, if◌then◌else◌}
-use Rattle.std.specs.List.{fold}
-use Rattle.ftpp_base.specs.Lists.{change_at, cell_at}
+use Rattle.std.specs.Prelude.{ℕ, ◌+◌, ◌==◌, List, slice_set, Option, Some, None, if◌then◌else◌}
+use Rattle.ftpp_base.specs.Lists.{cell_at}
 use Rattle.ftpp_base.specs.declared.element.Proc.{Proc}
 use Rattle.packet_format.specs.declared.Packet.{Packet}
 use Rattle.bit_vote.specs.Vote.{Cell}
 use Rattle.two_round.specs.Echoes.{Echoes, result_for}
 use Rattle.local_pattern.specs.Pattern.{column_bytes}
 pub use Rattle.pattern_exchange.specs.Settled.{settled}
-use Rattle.config_table.specs.declared.decisions.Service.{Service}
 use Rattle.config_table.specs.declared.decisions.Decision.{Decision}
 use Rattle.config_table.specs.declared.decisions.Decision.TheVariants.{Idle, Discard, Exchange}
-use Rattle.config_table.specs.Table.{TableValue, in_limit}
+use Rattle.config_table.specs.Table.{TableValue}
 use Rattle.flag_vote.specs.Flags.{Pattern, voted_flags}
 use Rattle.scoreboard.specs.Board.{Scoreboard, after_update}
 use Rattle.scoreboard.specs.Choice.{scoreboard_decision, scoreboard_after}
-use Rattle.processor_buffers.specs.Queues.{Queues, no_queues, head_of, after_pop, handed_by}
+use Rattle.processor_buffers.specs.Queues.{Queues, head_of}
 use Rattle.processor_buffers.specs.declared.Handed.{Handed}
 use Rattle.table_update.specs.declared.Update.{Update}
 use Rattle.table_update.specs.declared.Applied.{Applied}
 use Rattle.table_update.specs.declared.Applied.TheVariants as applied_variant
 use Rattle.table_update.specs.Updates.{applied, table_after, named_group}
-use Rattle.data_exchange.specs.Entries.{members_vote, entry_by, own_row, packet_in, member_at}
+use Rattle.data_exchange.specs.Entries.{members_vote, entry_by, own_row, packet_in}
 pub use Rattle.element_ports.specs.PortQueues.{with_port, served_ports, delivered_to, delivered_ports, handed_by_own, handed_here, own_cleared}
 use Rattle.element_core.specs.declared.Outcome3.{Outcome3}
 use Rattle.element_core.specs.Processors.{port_queues, column_of}
-use Rattle.element_core.specs.Cycle.{admitted_members, receivers, after_entry, update_outcome, update_in}
+use Rattle.element_core.specs.Cycle.{update_outcome, update_in}
 
 -- What an element keeps from cycle to cycle.
 pub record Kept : Type 0 where

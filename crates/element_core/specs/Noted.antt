@@ -1,31 +1,21 @@
 -- What an element sends and notes by what it keeps and hears itself.
-use Rattle.std.specs.Prelude.{ℕ, Bool, true, not, ◌&&◌, List, [], ◌∷◌, ◌++◌, map, filter, slice_set, Option, Some, None, if◌then◌else◌}
-use Rattle.std.specs.List.{flat_map}
-use Rattle.ftpp_base.specs.Lists.{below, each_below, others, cell_at}
-use Rattle.ftpp_base.specs.Sets.{has}
+use Rattle.std.specs.Prelude.{ℕ, List, [], ◌∷◌, slice_set, Some, None, if◌then◌else◌}
+use Rattle.ftpp_base.specs.Lists.{each_below, cell_at}
 use Rattle.ftpp_base.specs.declared.element.Round.{Round}
 use Rattle.ftpp_base.specs.declared.element.Round.TheVariants.{A1, A2, B1, B2}
-use Rattle.bit_vote.specs.Vote.{Cell, same_cell}
-use Rattle.two_round.specs.Echoes.{Echoes, relayed_at, result_for}
+use Rattle.bit_vote.specs.Vote.{Cell}
+use Rattle.two_round.specs.Echoes.{Echoes, result_for}
 use Rattle.local_pattern.specs.Pattern.{column_bytes}
-use Rattle.config_table.specs.declared.decisions.Kind.{Kind}
-use Rattle.config_table.specs.declared.decisions.Kind.TheVariants.{Voted, Source, Every}
-use Rattle.config_table.specs.declared.decisions.Service.{Service}
 use Rattle.config_table.specs.declared.decisions.Decision.{Decision}
 use Rattle.config_table.specs.declared.decisions.Decision.TheVariants.{Idle, Discard, Exchange}
 use Rattle.config_table.specs.Table.{TableValue}
-use Rattle.flag_vote.specs.Flags.{Pattern, has_space, voted_flags}
+use Rattle.flag_vote.specs.Flags.{voted_flags}
 use Rattle.scoreboard.specs.Choice.{scoreboard_decision}
 use Rattle.data_exchange.specs.Entries.{entry_by}
 use Rattle.syndrome_log.specs.declared.Syndrome.{Syndrome}
-use Rattle.syndrome_log.specs.declared.SyndromeKind.{SyndromeKind}
-use Rattle.syndrome_log.specs.declared.SyndromeKind.TheVariants as kind
-use Rattle.syndrome_log.specs.Log.{noted}
 pub use Rattle.element_notes.specs.Notes.{is_off_copy, is_off_relay, off_copies, off_by, off_relays, absent_ones, says_full_at, full_ones, own_compared, is_off_value, off_values, notes_of}
 use Rattle.element_core.specs.Processors.{column_of}
-use Rattle.element_core.specs.Cycle.{receivers}
 use Rattle.element_core.specs.Sent.{is_relayed}
-use Rattle.element_core.specs.Syndromes.{accused_where, is_left_out, stands_at, has_three, differs}
 use Rattle.element_core.specs.Element.{Kept, Heard, Made, echoes_of, settled, own_packet}
 
 -- ---- what it sends

@@ -1,19 +1,16 @@
 -- The queues of all processors, by element and then by port, and what changes them.
-use Rattle.std.specs.Prelude.{ℕ, List, [], ◌∷◌, replicate, slice_index_or, Option, Some, None, is_some, option_map, unwrap_or, map, if◌then◌else◌}
+use Rattle.std.specs.Prelude.{ℕ, List, [], ◌∷◌, replicate, slice_index_or, Option, Some, None, if◌then◌else◌}
 use Rattle.std.specs.List.{fold}
-use Rattle.ftpp_base.specs.Bits.{eight}
 use Rattle.ftpp_base.specs.Lists.{change_at}
 use Rattle.ftpp_base.specs.declared.element.Proc.{Proc}
 use Rattle.packet_format.specs.declared.Descriptor.{Descriptor}
-use Rattle.packet_format.specs.declared.Delivered.{Delivered}
 use Rattle.packet_format.specs.declared.acts.Act.{Act}
 use Rattle.packet_format.specs.declared.acts.Act.TheVariants.{Post, Read}
 use Rattle.packet_format.specs.declared.acts.ActAnswer.{ActAnswer}
-use Rattle.packet_format.specs.declared.acts.ActAnswer.TheVariants.{Posted as Accepted, PostFull, Got, Nothing}
-use Rattle.packet_format.specs.Packets.{no_descriptor}
+use Rattle.packet_format.specs.declared.acts.ActAnswer.TheVariants.{Posted as Accepted, PostFull}
 use Rattle.local_pattern.specs.declared.Entry.{Entry}
 use Rattle.config_table.specs.Table.{TableValue, out_limit, in_limit}
-use Rattle.processor_buffers.specs.Queues.{Queues, Posted, no_queues, first, head_of, has_out_room, has_in_room, after_post, after_read, after_pop}
+use Rattle.processor_buffers.specs.Queues.{Queues, Posted, no_queues, first, head_of, has_out_room, after_post, after_read, after_pop}
 pub use Rattle.element_ports.specs.PortQueues.{empty_ports, port_queues, read_answer, shown_entry, column_of}
 
 -- the queues of each port of each element

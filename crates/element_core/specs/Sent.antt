@@ -1,14 +1,11 @@
 -- What each element sends in the rounds of a cycle, before an adversary changes it.
-use Rattle.std.specs.Prelude.{ℕ, Bool, false, not, ◌&&◌, List, [], ◌∷◌, None, if◌then◌else◌}
+use Rattle.std.specs.Prelude.{ℕ, List, [], ◌∷◌, None, if◌then◌else◌}
 use Rattle.ftpp_base.specs.Lists.{each_below, cell_at}
 use Rattle.ftpp_base.specs.declared.element.Round.{Round}
 use Rattle.ftpp_base.specs.declared.element.Round.TheVariants.{A1, A2, B1, B2}
 use Rattle.bit_vote.specs.Vote.{Cell}
 use Rattle.bit_vote.specs.Agreed.{copy_at}
-use Rattle.config_table.specs.declared.decisions.Decision.{Decision}
-use Rattle.config_table.specs.declared.decisions.Decision.TheVariants.{Idle, Discard, Exchange}
 use Rattle.frame_format.specs.Frames.{frame_bytes}
-use Rattle.data_exchange.specs.Entries.{contributes, is_voted}
 pub use Rattle.config_table.specs.Kinds.{is_relayed}
 use Rattle.element_core.specs.Cycle.{Shown}
 

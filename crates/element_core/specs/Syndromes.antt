@@ -1,10 +1,8 @@
 -- What an element notes of the others in a cycle.
-use Rattle.std.specs.Prelude.{ℕ, Bool, true, false, not, ◌&&◌, nat_le, List, [], ◌++◌, map, filter, Option, Some, None, unwrap_or, option_map, if◌then◌else◌}
+use Rattle.std.specs.Prelude.{ℕ, Bool, true, not, ◌&&◌, List, [], ◌++◌, map, filter, Option, Some, None, if◌then◌else◌}
 use Rattle.std.specs.List.{flat_map}
-use Rattle.ftpp_base.specs.Lists.{below, others, cell_at, is_this, is_in}
+use Rattle.ftpp_base.specs.Lists.{below, others, cell_at, is_this}
 use Rattle.ftpp_base.specs.Sets.{has}
-use Rattle.ftpp_base.specs.declared.element.Proc.{Proc}
-use Rattle.ftpp_base.specs.declared.sets.Set8.{Set8}
 use Rattle.bit_vote.specs.Vote.{Cell, same_cell}
 use Rattle.bit_vote.specs.Agreed.{FirstRound, agreed, copy_at}
 use Rattle.config_table.specs.declared.decisions.Kind.{Kind}
@@ -12,10 +10,8 @@ use Rattle.config_table.specs.declared.decisions.Kind.TheVariants.{Voted, Source
 use Rattle.config_table.specs.declared.decisions.Service.{Service}
 use Rattle.config_table.specs.declared.decisions.Decision.{Decision}
 use Rattle.config_table.specs.declared.decisions.Decision.TheVariants.{Idle, Discard, Exchange}
-use Rattle.config_table.specs.Groups.{elements_of, live_count}
-use Rattle.config_table.specs.Table.{TableValue, group_named}
 use Rattle.flag_vote.specs.Flags.{has_space}
-use Rattle.data_exchange.specs.Entries.{senders, entry_at}
+use Rattle.data_exchange.specs.Entries.{entry_at}
 use Rattle.syndrome_log.specs.declared.Syndrome.{Syndrome}
 use Rattle.syndrome_log.specs.declared.SyndromeKind.{SyndromeKind}
 use Rattle.syndrome_log.specs.declared.SyndromeKind.TheVariants as kind

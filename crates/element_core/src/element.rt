@@ -46,8 +46,6 @@ pub struct Element<const N: usize> {
     pub(crate) due: Due,
     pub(crate) last: Option<CycleRecord<N>>,
     pub(crate) log: SyndromeLog,
-    /// The results of the packets that were relayed, written at the end of a cycle.
-    pub(crate) results: Cells<N, 64>,
     /// The frame that is sent or taken.
     pub(crate) frame: FrameBuf,
 }
@@ -91,7 +89,6 @@ impl<const N: usize> Element<N> {
             due: Due::Emit(Round::A1),
             last: None,
             log,
-            results: Cells::absent(),
             frame: FrameBuf::new(),
         })
     }

@@ -28,22 +28,21 @@ impl<const N: usize> Element<N> {
         requires { self.old.due ≡ Due.Absorb Round.B2 }
         ensures { self.new ≡ ended_with self.old self.old.heard }
     {
-        self.packets
-            .results_into(relayed(&self.pending.decision), &mut self.results);
+        let results = self.packets.results_of(relayed(&self.pending.decision));
         let packet = entry_of(
             self.kept.table(),
             &self.pending.decision,
             &self.packets,
-            &self.results,
+            &results,
         );
         let asked = update_of(
             self.kept.table(),
             &self.pending.decision,
             &self.packets,
-            &self.results,
+            &results,
         );
         let mut syndromes = Row::new();
-        self.note(&self.results, packet.as_ref(), &mut syndromes);
+        self.note(&results, packet.as_ref(), &mut syndromes);
         self.log.extend_from_slice(syndromes.as_slice());
         let cycle = self.kept.cycle();
         let handed = self.kept.serve(

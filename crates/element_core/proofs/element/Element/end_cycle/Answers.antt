@@ -1,5 +1,5 @@
 use Rattle.std.proofs.Common.{◌≡◌, ◌<◌, sym, ap, ◌∙◌, subst, arith, inl, inr, Option}
-use Rattle.std.specs.Prelude.{◌++◌, option_map}
+use Rattle.std.specs.Prelude.{◌++◌, option_copied, option_map}
 use Rattle.two_round.specs.Echoes.{Echoes, no_echoes}
 use Rattle.config_table.specs.declared.decisions.Decision.{Decision}
 use Rattle.config_table.specs.Table.{IsValid}
@@ -7,7 +7,7 @@ use Rattle.syndrome_log.specs.Log.{last_kept}
 use Rattle.element_notes.specs.AtHand.{AreResults}
 use Rattle.element_core.specs.Sent.{is_relayed}
 use Rattle.element_core.specs.Element.{Kept, own_entry, own_update, own_service, own_handed, made, kept_after}
-use Rattle.element_core.specs.Noted.{decided_by}
+use Rattle.element_core.specs.Noted.{noted_by, decided_by}
 use Rattle.element_core.proofs.PhaseLaws.{kept_size}
 use Rattle.flag_vote.specs.Flags.{voted_flags}
 use Rattle.scoreboard.specs.Board.{Scoreboard}
@@ -15,7 +15,7 @@ use Rattle.scoreboard.specs.Times.{OnlyMembersLag}
 use Rattle.scoreboard.proofs.MemberLags.{members_step}
 use Rattle.ftpp_base.specs.declared.element.Round.TheVariants.{A1}
 use Rattle.element_core.specs.declared.Due.TheVariants.{Emit}
-use Rattle.element_core.specs.ElementValue.{ElementValue, CycleTold, pattern_now, packets_now, ended_with}
+use Rattle.element_core.specs.ElementValue.{ElementValue, CycleTold, pattern_now, packets_now, decision_now, ended_with}
 use Rattle.element_core.specs.Pending.{element_with}
 use Rattle.element_core.specs.Told.{told_of}
 use Rattle.element_core.proofs.StepLaws.{kept_me}
@@ -27,10 +27,10 @@ use Rattle.element_core.proofs.element.Element.end_cycle.Given.{Over}
 -- ---- what the calls need
 
 -- the results at hand are those of the senders that are relayed
-are_relayed : (g : Over) (c : goal.After-entry_of-arg-3-1 g) → AreResults g.row.N c.self.inside.packets (is_relayed c.self.inside.pending.decision) c.results_into.new.results
+are_relayed : (g : Over) (c : goal.After-results-1 g) → AreResults g.row.N c.self.inside.packets (is_relayed c.self.inside.pending.decision) c.results_of-results.result
 are_relayed g c =
-    results_are g.row.N c.self.inside.packets (is_relayed c.self.inside.pending.decision) c.relayed.result c.results_into.new.results
-    (few_by g.row.N c.self.invariant.0.size) c.results_into.ensures.results c.relayed.ensures
+    results_are g.row.N c.self.inside.packets (is_relayed c.self.inside.pending.decision) c.relayed.result c.results_of-results.result
+    (few_by g.row.N c.self.invariant.0.size) c.results_of-results.ensures.results c.relayed.ensures
 
 pub entry_of-packet-requires : goal.entry_of-packet-requires
 entry_of-packet-requires g c =
@@ -70,7 +70,7 @@ update_of-asked-requires g c =
             ap (λ t. t.n) c.table-2.ensures.table ∙ h.elements,
             (
               decision_fits_now g.row.N e s.pending h due valid,
-              results_are g.row.N s.packets (is_relayed s.pending.decision) c.relayed.result c.results_into.new.results few c.results_into.ensures.results c.relayed.ensures,
+              results_are g.row.N s.packets (is_relayed s.pending.decision) c.relayed.result c.results_of-results.result few c.results_of-results.ensures.results c.relayed.ensures,
             ),
           ),
         ),
@@ -86,12 +86,21 @@ note-requires g c =
     let decision = (h.agreed (rw due (omega arith))).decision in
     let packets : s.packets ≡ record { me = s.kept.me; copies = s.packets.copies; relayed = s.packets.relayed } =
     λ i. record { me = c.self.invariant.2 i; copies = s.packets.copies; relayed = s.packets.relayed } in
-    let are = results_are g.row.N s.packets (is_relayed s.pending.decision) c.relayed.result c.results_into.new.results few c.results_into.ensures.results c.relayed.ensures in
-    let results = subst (λ (x : Echoes). AreResults g.row.N x (is_relayed (decided_by s.kept s.patterns.copies s.patterns.relayed)) c.results_into.new.results) packets
-    (subst (λ (d : Decision). AreResults g.row.N s.packets (is_relayed d) c.results_into.new.results) decision are) in
+    let are = results_are g.row.N s.packets (is_relayed s.pending.decision) c.relayed.result c.results_of-results.result few c.results_of-results.ensures.results c.relayed.ensures in
+    let results = subst (λ (x : Echoes). AreResults g.row.N x (is_relayed (decided_by s.kept s.patterns.copies s.patterns.relayed)) c.results_of-results.result) packets
+    (subst (λ (d : Decision). AreResults g.row.N s.packets (is_relayed d) c.results_of-results.result) decision are) in
     let entry = c.as_ref.ensures.value ∙ c.entry_of-packet.ensures ∙ (λ i. own_entry (c.table.ensures.table i) (decision i) (packets i)) in (
       elim h.size [ inl four ↦ rw four (omega arith) | inr five ↦ rw five (omega arith) ],
-      (grind (arith, few), (due, (results, entry))),
+      (
+        grind (arith, few),
+        (
+          c.requires,
+          (
+            subst (λ (v : ElementValue). AreResults g.row.N (packets_now v) (is_relayed (decision_now v)) c.results_of-results.result) c.self.view_is results,
+            subst (λ (v : ElementValue). option_copied c.as_ref.result ≡ own_entry v.kept.table (decision_now v) (packets_now v)) c.self.view_is entry,
+          ),
+        ),
+      ),
     )
 
 pub serve-handed-requires-clause-earlier : goal.serve-handed-requires-clause-earlier
@@ -140,8 +149,8 @@ keeps g c =
     kept_ends (ending g c) s.pending.decision c.entry_of-packet.result c.update_of-asked.result s.pending.after.value c.serve-handed.new.self c.update-update.new.self
     c.self.invariant.0.cells due (at_hand g c) (c.self.invariant.0.agreed (rw due (omega arith))).after (serves g c) c.update-update.ensures.kept
 
-pub invariant_of-self-2 : goal.invariant_of-self-2
-invariant_of-self-2 g c =
+pub invariant_of-self : goal.invariant_of-self
+invariant_of-self g c =
     let s = c.self.inside in
     let h = c.self.invariant.0 in
     let m = made (ending g c).kept (ending g c).heard in
@@ -162,7 +171,7 @@ returns g c =
     let e = ending g c in
     let due = ap (λ (v : ElementValue). v.due) c.self.view_is ∙ c.requires in
     let agreed = h.agreed (rw due (omega arith)) in
-    let notes = c.note.ensures in
+    let notes = c.note.ensures ∙ sym (ap (λ (v : ElementValue). noted_by v.kept (made v.kept v.heard)) c.self.view_is) in
     let handed = c.serve-handed.ensures.handed ∙ (λ i. own_handed s.kept s.pending.decision (c.as_ref-2.ensures.value i) (own_service s.kept s.pending.decision)) in
     let told = told_ends e c.cycle-cycle.result s.pending.pattern s.pending.decision c.entry_of-packet.result c.serve-handed.result c.update_of-asked.result c.update-update.result
     c.serve-handed.new.self.table c.as_slice-2.result.now h.cells due (at_hand g c) c.cycle-cycle.ensures.cycle agreed.pattern handed
