@@ -68,5 +68,6 @@ pub(crate) fn rejoin_at<const N: usize>(stations: &mut [Station<N>], ne: Ne) -> 
     ensures states { AllTellStates stations.old }
 {
     let states = states_of(stations);
-    stations[ne.index()].element.rejoin(&states)
+    let station = &mut stations[ne.index()];
+    station.element.rejoin(&states)
 }

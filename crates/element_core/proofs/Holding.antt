@@ -10,6 +10,7 @@ use Rattle.scoreboard.specs.Choice.{scoreboard_decision, scoreboard_after}
 use Rattle.scoreboard.specs.Times.{AreLinesOf, AreBefore}
 use Rattle.syndrome_log.specs.declared.Syndrome.{Syndrome}
 use Rattle.config_table.specs.declared.decisions.Decision.{Decision}
+use Rattle.element_notes.specs.AtHand.{HasDiffering}
 use Rattle.element_core.specs.Element.{Kept, own_packet, echoes_of, settled}
 use Rattle.element_core.specs.Phases.{no_cells}
 use Rattle.element_core.specs.Noted.{own_pattern, where_relayed, cells_made}
@@ -106,7 +107,7 @@ with_due n e pending due h same low = record {
   cycle = λ begun. low;
   agreed = λ l.
       let agreed = h.agreed (subst (λ k. 2 ≤ k) same l) in
-      record { results = agreed.results; pattern = agreed.pattern; decision = agreed.decision; after = agreed.after; lines = agreed.lines; earlier = agreed.earlier };
+      record { results = agreed.results; differing = agreed.differing; pattern = agreed.pattern; decision = agreed.decision; after = agreed.after; lines = agreed.lines; earlier = agreed.earlier };
 }
 
 -- as many rounds were heard before and after it sent
@@ -169,7 +170,7 @@ holds_packets n e pending frames h due = record {
   cells = own_cells_stay e B1 frames due (subst (λ k. e.kept.me < k) (sym h.elements) h.below) h.cells;
   cycle = λ begun. h.cycle (begun_by e.due B1 due);
   agreed = λ l. let a = h.agreed (rw due (omega arith)) in
-      record { results = a.results; pattern = a.pattern; decision = a.decision; after = a.after; lines = a.lines; earlier = a.earlier };
+      record { results = a.results; differing = a.differing; pattern = a.pattern; decision = a.decision; after = a.after; lines = a.lines; earlier = a.earlier };
 }
 
 -- after it took their echoes, before the cycle ends
@@ -191,7 +192,7 @@ holds_echoes n e pending frames h due = record {
   };
   cycle = h.cycle;
   agreed = λ l. let a = h.agreed l in
-      record { results = a.results; pattern = a.pattern; decision = a.decision; after = a.after; lines = a.lines; earlier = a.earlier };
+      record { results = a.results; differing = a.differing; pattern = a.pattern; decision = a.decision; after = a.after; lines = a.lines; earlier = a.earlier };
 }
 
 -- ---- what it takes, in the words of its own value
@@ -216,15 +217,17 @@ own_put copies place me n own other same long below is =
 -- what it makes of both rounds of patterns is what is to be made of what it heard
 pub agreed_midst : (n : ℕ) (e : ElementValue) (pending : Pending n) (x : Echoes) → e.kept.table.n ≡ n → HasOwnCells e → 1 ≤ rounds_heard e.due → x ≡ patterns_now e
     → pending.results ≡ each_below n (result_for x)
+    → HasDiffering n x (λ s. true) pending.differing
     → pending.pattern ≡ settled n x
     → pending.decision ≡ scoreboard_decision e.kept.table e.kept.cycle (voted_flags e.kept.table (settled n x)) e.kept.scoreboard
     → pending.after.value ≡ scoreboard_after e.kept.table e.kept.cycle (voted_flags e.kept.table (settled n x)) e.kept.scoreboard
     → AreLinesOf e.kept.table pending.after.value → AreBefore (e.kept.cycle + 1) pending.after.value → IsPending n e pending
-agreed_midst n e pending x size cells heard is results pattern decision after lines earlier =
+agreed_midst n e pending x size cells heard is results differing pattern decision after lines earlier =
     let echoes : x ≡ echoes_of e.kept.me (own_pattern e.kept) e.heard.patterns e.heard.relayed_patterns = is ∙ sym ((own_cells_hold e cells).patterns heard) in
     let agreed : settled n x ≡ pattern_now e = λ i. settled (sym size i) (echoes i) in
     record {
       results = results ∙ (λ i. each_below (sym size i) (result_for (echoes i)));
+      differing = subst (λ y. HasDiffering n y (λ s. true) pending.differing) echoes differing;
       pattern = pattern ∙ agreed;
       decision = decision ∙ (λ i. scoreboard_decision e.kept.table e.kept.cycle (voted_flags e.kept.table (agreed i)) e.kept.scoreboard);
       after = after ∙ (λ i. scoreboard_after e.kept.table e.kept.cycle (voted_flags e.kept.table (agreed i)) e.kept.scoreboard);

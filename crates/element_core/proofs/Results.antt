@@ -1,5 +1,5 @@
 -- The results that an element has at hand at the end of a cycle.
-use Rattle.std.proofs.Common.{◌≡◌, ℕ, ◌<◌, ◌≤◌, ◌+◌, ◌⊎◌, Bool, true, cond, List, refl, ap, sym, ◌∙◌, subst, Option, Some, None, arith, inl, inr}
+use Rattle.std.proofs.Common.{◌≡◌, ℕ, ◌<◌, ◌≤◌, ◌+◌, ◌⊎◌, Bool, true, false, cond, List, refl, ap, sym, ◌∙◌, subst, Option, Some, None, arith, inl, inr}
 use Rattle.std.specs.Prelude.{◌++◌}
 use Rattle.ftpp_base.specs.Lists.{cell_at, each_below}
 use Rattle.ftpp_base.specs.Sets.{has}
@@ -9,7 +9,7 @@ use Rattle.ftpp_base.specs.declared.element.Proc.{Proc}
 use Rattle.packet_format.specs.declared.Packet.{Packet}
 use Rattle.processor_buffers.specs.declared.Handed.{Handed}
 use Rattle.bit_vote.specs.Vote.{Cell}
-use Rattle.two_round.specs.Echoes.{Echoes, no_echoes, result_for, result_of}
+use Rattle.two_round.specs.Echoes.{Echoes, no_echoes, result_for, result_of, IsUnanimous}
 use Rattle.two_round.proofs.Agreement.{at_place}
 use Rattle.config_table.specs.Table.{TableValue, IsValid}
 use Rattle.config_table.specs.declared.decisions.Decision.{Decision}
@@ -17,7 +17,7 @@ use Rattle.scoreboard.specs.Board.{Scoreboard, marked}
 use Rattle.flag_vote.specs.Flags.{Pattern, voted_flags}
 use Rattle.syndrome_log.specs.declared.Syndrome.{Syndrome}
 use Rattle.syndrome_log.specs.Log.{last_kept}
-use Rattle.element_notes.specs.AtHand.{AreResults}
+use Rattle.element_notes.specs.AtHand.{AreResults, HasDiffering}
 use Rattle.element_core.specs.declared.Outcome3.{Outcome3}
 use Rattle.element_core.specs.Cycle.{update_in, update_outcome}
 use Rattle.element_core.specs.Element.{Kept, Heard, own_entry, own_update, own_service, own_delivery, own_handed, made, kept_with, kept_after}
@@ -50,6 +50,20 @@ pattern_results n e pending h due = λ s l count.
     let held = (own_cells_hold e h.cells).patterns (rw due (omega arith)) in
     let is : pending.results ≡ each_below n (result_for (patterns_now e)) = agreed.results ∙ (λ i. each_below (h.elements i) (result_for (held i))) in
     ap (λ cells. cell_at cells s) is ∙ at_place n (result_for (patterns_now e)) s None l
+
+-- a set of the senders that count, where the words about the others are their results
+pub differing_are : (n : ℕ) (x : Echoes) (counts : ℕ → Bool) (sources set : Set8) → n ≤ 5 → ((s : ℕ) → s < 5 → has sources s ≡ counts s)
+    → ((s : ℕ) → s < n → has set s ≡ true → has sources s ≡ true) → ((s : ℕ) → s < n → has sources s ≡ true → has set s ≡ false → IsUnanimous n x s)
+    → HasDiffering n x counts set
+differing_are n x counts sources set few same within alike = record {
+  count = λ s l e. sym (same s (omega arith)) ∙ within s l e;
+  rest = λ s l count out. alike s l (same s (omega arith) ∙ count) out;
+}
+
+-- those of the patterns are those of the exchange as it is held
+pub pattern_differing : (n : ℕ) (e : ElementValue) (pending : Pending n) → IsElement n e pending → e.due ≡ Absorb B2 → HasDiffering n (patterns_now e) (λ s. true) pending.differing
+pattern_differing n e pending h due =
+    subst (λ x. HasDiffering n x (λ s. true) pending.differing) ((own_cells_hold e h.cells).patterns (rw due (omega arith))) (h.agreed (rw due (omega arith))).differing
 
 -- ---- the decision
 

@@ -6,9 +6,9 @@ use Rattle.ftpp_base.specs.declared.limits.TheConstants.{MOST_CYCLES}
 use Rattle.two_round.specs.Echoes.{Echoes, result_for}
 use Rattle.scoreboard.specs.Times.{AreLinesOf, AreBefore}
 use Rattle.syndrome_log.specs.declared.Syndrome.{Syndrome}
+use Rattle.element_notes.specs.AtHand.{HasDiffering}
 use Rattle.element_core.specs.Element.{Kept, echoes_of}
 use Rattle.element_core.specs.Noted.{own_pattern}
-use Rattle.element_core.specs.declared.pending.Pending.{Pending}
 use Rattle.element_core.specs.declared.pending.Pending.{Pending}
 use Rattle.element_core.specs.declared.Due.{Due}
 use Rattle.element_core.specs.declared.Due.TheVariants.{Emit, Absorb}
@@ -41,6 +41,7 @@ has_begun (Absorb round) = true
 -- What it made of both rounds of patterns is kept until the cycle ends.
 pub record IsPending (n : ℕ) (e : ElementValue) (pending : Pending n) : Type 0 where
   pub results : pending.results ≡ each_below e.kept.table.n (result_for (echoes_of e.kept.me (own_pattern e.kept) e.heard.patterns e.heard.relayed_patterns))
+  pub differing : HasDiffering n (echoes_of e.kept.me (own_pattern e.kept) e.heard.patterns e.heard.relayed_patterns) (λ s. true) pending.differing
   pub pattern : pending.pattern ≡ pattern_now e
   pub decision : pending.decision ≡ decision_now e
   pub after : pending.after.value ≡ scoreboard_now e

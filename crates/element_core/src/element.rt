@@ -17,7 +17,7 @@ use crate::{CycleRecord, Due};
 use bit_vote::Cells;
 use config_table::{Decision, Table};
 use frame_format::FrameBuf;
-use ftpp_base::{MOST_CYCLES, Ne, NoMemory, Round};
+use ftpp_base::{MOST_CYCLES, Ne, NoMemory, Round, Set8};
 use local_pattern::SystemPattern;
 use packet_format::{Delivered, Descriptor, Packet};
 use processor_buffers::PostFull;
@@ -82,6 +82,7 @@ impl<const N: usize> Element<N> {
             packets,
             pending: Pending {
                 results: Cells::absent(),
+                differing: Set8::EMPTY,
                 pattern: SystemPattern::quiet(),
                 decision: Decision::Idle,
                 after,

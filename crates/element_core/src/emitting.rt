@@ -8,7 +8,6 @@ ghost use Rattle.element_core.specs.ElementValue.{after_emit, frame_of, frames_i
 ghost use Rattle.element_core.specs.Frames.{cells_held};
 
 use crate::kept_state::KeptState;
-use crate::sending::send_all;
 use crate::{Due, Element};
 use bit_vote::Cells;
 use config_table::Decision;
@@ -38,7 +37,7 @@ impl<const N: usize> Element<N> {
             &self.pending.decision,
             &mut self.frame,
         );
-        send_all(self.kept.me(), &self.frame, link);
+        link.put_all(self.kept.me(), &self.frame);
         self.due = Due::Absorb(round);
     }
 }

@@ -1,7 +1,7 @@
 //! The end of a cycle.
 
 ghost use Rattle.std.specs.Prelude.{◌≡◌, ◌≤◌, Some, length, option_copied, option_map};
-ghost use Rattle.element_notes.specs.AtHand.{AreResults};
+ghost use Rattle.element_notes.specs.AtHand.{AreResults, HasDiffering};
 ghost use Rattle.element_core.specs.Sent.{is_relayed};
 ghost use Rattle.element_core.specs.Element.{own_entry, own_update, made};
 ghost use Rattle.element_core.specs.Noted.{noted_by};
@@ -15,8 +15,8 @@ use crate::{CycleRecord, Due, Element, Outcome3};
 use bit_vote::Cells;
 use config_table::{Decision, Table};
 use data_exchange::{entry, members_result};
-use element_notes::{Seen, note, relayed};
-use ftpp_base::{Proc, Round, Row};
+use element_notes::{Differing, Seen, note_differing, relayed};
+use ftpp_base::{Proc, Round, Row, Set8};
 use packet_format::Packet;
 use processor_buffers::Handed;
 use syndrome_log::Syndrome;
@@ -28,7 +28,9 @@ impl<const N: usize> Element<N> {
         requires { self.old.due ≡ Due.Absorb Round.B2 }
         ensures { self.new ≡ ended_with self.old self.old.heard }
     {
-        let results = self.packets.results_of(relayed(&self.pending.decision));
+        let mut results = self.packets.echo();
+        let sent = relayed(&self.pending.decision);
+        let differing = self.packets.settle(sent, &mut results);
         let packet = entry_of(
             self.kept.table(),
             &self.pending.decision,
@@ -42,7 +44,7 @@ impl<const N: usize> Element<N> {
             &results,
         );
         let mut syndromes = Row::new();
-        self.note(&results, packet.as_ref(), &mut syndromes);
+        self.note(&results, differing, packet.as_ref(), &mut syndromes);
         self.log.extend_from_slice(syndromes.as_slice());
         let cycle = self.kept.cycle();
         let handed = self.kept.serve(
@@ -64,9 +66,16 @@ impl<const N: usize> Element<N> {
     }
 
     /// What it notes of the others at the end of the cycle.
-    fn note(&self, results: &Cells<N, 64>, entry: Option<&Packet>, out: &mut Row<Syndrome, 64>)
+    fn note(
+        &self,
+        results: &Cells<N, 64>,
+        packets: Set8,
+        entry: Option<&Packet>,
+        out: &mut Row<Syndrome, 64>,
+    )
         requires due { self.now.due ≡ Due.Absorb Round.B2 }
         requires results { AreResults N (packets_now self.now) (is_relayed (decision_now self.now)) results.now }
+        requires differing { HasDiffering N (packets_now self.now) (is_relayed (decision_now self.now)) packets }
         requires entry { option_copied entry ≡ own_entry self.now.kept.table (decision_now self.now) (packets_now self.now) }
         ensures { out.new.items ≡ noted_by self.now.kept (made self.now.kept self.now.heard) }
     {
@@ -82,7 +91,11 @@ impl<const N: usize> Element<N> {
             packet_results: results,
             entry,
         };
-        note(&seen, out);
+        let differing = Differing {
+            patterns: self.pending.differing,
+            packets,
+        };
+        note_differing(&seen, &differing, out);
     }
 }
 

@@ -15,10 +15,10 @@ ghost use Rattle.element_ports.specs.PortQueues.{empty_ports, own_act, own_answe
 ghost use Rattle.element_core.specs.Element.{own_packet};
 ghost use Rattle.element_core.specs.Noted.{own_pattern};
 
-use config_table::{Decision, Service, Table};
+use config_table::{Decision, Service, Table, VotedFlags};
 use data_exchange::contributes;
 use element_ports::Ports;
-use flag_vote::voted;
+use flag_vote::voted_into;
 use ftpp_base::{MOST_CYCLES, Ne, NoMemory, Round, Slot};
 use local_pattern::SystemPattern;
 use packet_format::{Delivered, Descriptor, Packet};
@@ -220,7 +220,8 @@ impl KeptState {
         ensures lines { AreLinesOf self.now.table after.new }
         ensures earlier { AreBefore (self.now.cycle + 1) after.new }
     {
-        let flags = voted(&self.table, pattern);
+        let mut flags = VotedFlags::new();
+        voted_into(&self.table, pattern, &mut flags);
         self.scoreboard
             .step_into(&self.table, self.cycle, &flags, after)
     }

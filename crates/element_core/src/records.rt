@@ -32,17 +32,25 @@ impl<const N: usize> CycleRecord<N> {
     pub fn copy(&self) -> CycleRecord<N>
         ensures { result ≡ self.now }
     {
-        let mut syndromes = Row::new();
-        let _ = syndromes.try_extend_from_slice(self.syndromes.as_slice());
-        CycleRecord {
-            cycle: self.cycle,
-            pattern: self.pattern,
-            decision: self.decision,
-            packet: self.packet,
-            handed: self.handed,
-            update: self.update,
-            syndromes,
-        }
+        let mut record = CycleRecord::default();
+        record.copy_from(self);
+        record
+    }
+
+    /// Like `copy`, but writes over another record.
+    pub fn copy_from(&mut self, other: &CycleRecord<N>)
+        ensures { self.new ≡ other.now }
+    {
+        self.cycle = other.cycle;
+        self.pattern = other.pattern;
+        self.decision = other.decision;
+        self.packet = other.packet;
+        self.handed = other.handed;
+        self.update = other.update;
+        self.syndromes.clear();
+        let _ = self
+            .syndromes
+            .try_extend_from_slice(other.syndromes.as_slice());
     }
 }
 

@@ -2,7 +2,7 @@
 
 ghost use Rattle.std.specs.Prelude.{◌≡◌, ◌≢◌, ℕ, ◌<◌, ◌≤◌, ◌⊎◌, ◌==◌, List, Option, [], ◌++◌, ◌∷◌, length, take, slice_index_or, Err, IfErr, OnOk};
 ghost use Rattle.ftpp_outside.specs.Told.{Rose};
-ghost use Rattle.link_fabric.specs.Rows.{rows_of};
+ghost use Rattle.link_fabric.specs.Ends.{came_of};
 ghost use Rattle.element_node.specs.Dialog.{ready, piece};
 ghost use Rattle.element_node.specs.Progress.{Between, Halts};
 ghost use Rattle.element_node.specs.Input.{read_frame, length_in, read_frame_from, read_frames_from, read_frames};
@@ -64,12 +64,12 @@ fn take_frame_from<const N: usize, S: Source>(
     link: &mut LinkEnd<N>,
 ) -> Result<(), Halt>
     requires below { sender < N }
-    requires own { slice_index_or (rows_of link.old.came.items) link.old.owner [] ≡ [] }
-    ensures taken { OnOk result ((w : Option (List ℕ)) → Between (read_frame_from link.old.owner sender) (ready (slice_index_or (rows_of link.new.came.items) sender [])) (S.left input.old) (S.left input.new) w w) }
-    ensures before { take sender (rows_of link.new.came.items) ≡ take sender (rows_of link.old.came.items) }
+    requires own { slice_index_or (came_of link.old) link.old.owner [] ≡ [] }
+    ensures taken { OnOk result ((w : Option (List ℕ)) → Between (read_frame_from link.old.owner sender) (ready (slice_index_or (came_of link.new) sender [])) (S.left input.old) (S.left input.new) w w) }
+    ensures before { take sender (came_of link.new) ≡ take sender (came_of link.old) }
     ensures halted { IfErr result (λ halt. (w : Option (List ℕ)) → Halts (read_frame_from link.old.owner sender) halt (S.left input.old) (S.left input.new) w w) }
     ensures owner { link.new.owner ≡ link.old.owner }
-    ensures own { slice_index_or (rows_of link.new.came.items) link.old.owner [] ≡ [] }
+    ensures own { slice_index_or (came_of link.new) link.old.owner [] ≡ [] }
     ensures read { result ≡ Err Halt.Read → Rose (S.faults input.old) (S.faults input.new) }
     ensures no_write { result ≢ Err Halt.Write }
     ensures faults { S.faults input.old ≤ S.faults input.new }
@@ -89,11 +89,11 @@ pub(crate) fn take_frames<const N: usize, S: Source>(
     link: &mut LinkEnd<N>,
 ) -> Result<(), Halt>
     requires size { (N ≡ 4) ⊎ (N ≡ 5) }
-    requires own { slice_index_or (rows_of link.old.came.items) link.old.owner [] ≡ [] }
-    ensures taken { OnOk result ((w : Option (List ℕ)) → Between (read_frames N link.old.owner) (ready (rows_of link.new.came.items)) (S.left input.old) (S.left input.new) w w) }
+    requires own { slice_index_or (came_of link.old) link.old.owner [] ≡ [] }
+    ensures taken { OnOk result ((w : Option (List ℕ)) → Between (read_frames N link.old.owner) (ready (came_of link.new)) (S.left input.old) (S.left input.new) w w) }
     ensures halted { IfErr result (λ halt. (w : Option (List ℕ)) → Halts (read_frames N link.old.owner) halt (S.left input.old) (S.left input.new) w w) }
     ensures owner { link.new.owner ≡ link.old.owner }
-    ensures own { slice_index_or (rows_of link.new.came.items) link.old.owner [] ≡ [] }
+    ensures own { slice_index_or (came_of link.new) link.old.owner [] ≡ [] }
     ensures read { result ≡ Err Halt.Read → Rose (S.faults input.old) (S.faults input.new) }
     ensures no_write { result ≢ Err Halt.Write }
     ensures faults { S.faults input.old ≤ S.faults input.new }

@@ -2,7 +2,7 @@
 
 ghost use Rattle.std.specs.Prelude.{◌≡◌, ◌≢◌, ℕ, ◌+◌, ◌<◌, ◌≤◌, ◌⊎◌, List, [], ◌++◌, length, take, slice_index_or, Option, IfErr, IfSome, OnOk, Err};
 ghost use Rattle.ftpp_outside.specs.Told.{Rose, Adds};
-ghost use Rattle.link_fabric.specs.Rows.{rows_of};
+ghost use Rattle.link_fabric.specs.Ends.{came_of};
 ghost use Rattle.ftpp_base.specs.declared.element.Round.TheVariants.{A1};
 ghost use Rattle.element_core.specs.declared.Due.TheVariants.{Emit};
 ghost use Rattle.element_node.specs.Dialog.{ready, write_then};
@@ -72,7 +72,7 @@ fn serve_round<const N: usize, S: Source, K: Sink>(
     requires due { element.old.due ≡ Emit round }
     requires cycle { element.old.kept.cycle < MOST_CYCLES }
     requires owner { link.old.owner ≡ element.old.kept.me }
-    requires own { slice_index_or (rows_of link.old.came.items) link.old.owner [] ≡ [] }
+    requires own { slice_index_or (came_of link.old) link.old.owner [] ≡ [] }
     requires room { length text.old.items ≤ 5760 }
     ensures served { OnOk result (Between (write_then text.old.items (round_dialog round element.old)) (ready element.new) (S.left input.old) (S.left input.new) (K.written out.old) (K.written out.new)) }
     ensures halted { IfErr result (λ halt. Halts (write_then text.old.items (round_dialog round element.old)) halt (S.left input.old) (S.left input.new) (K.written out.old) (K.written out.new)) }
@@ -82,7 +82,7 @@ fn serve_round<const N: usize, S: Source, K: Sink>(
     ensures text { OnOk result (text.new.items ≡ []) }
     ensures room { OnOk result (length text.new.items ≤ 5760) }
     ensures owner { OnOk result (link.new.owner ≡ element.new.kept.me) }
-    ensures own { OnOk result (slice_index_or (rows_of link.new.came.items) link.new.owner [] ≡ []) }
+    ensures own { OnOk result (slice_index_or (came_of link.new) link.new.owner [] ≡ []) }
     ensures read { result ≡ Err Halt.Read → Rose (S.faults input.old) (S.faults input.new) }
     ensures write { result ≡ Err Halt.Write → Rose (K.faults out.old) (K.faults out.new) }
     ensures input_faults { S.faults input.old ≤ S.faults input.new }
@@ -110,7 +110,7 @@ fn serve_rounds<const N: usize, S: Source, K: Sink>(
     requires due { element.old.due ≡ Emit A1 }
     requires cycle { element.old.kept.cycle < MOST_CYCLES }
     requires owner { link.old.owner ≡ element.old.kept.me }
-    requires own { slice_index_or (rows_of link.old.came.items) link.old.owner [] ≡ [] }
+    requires own { slice_index_or (came_of link.old) link.old.owner [] ≡ [] }
     requires room { length text.old.items ≤ 5760 }
     ensures served { OnOk result (Between (write_then text.old.items (rounds_dialog element.old)) (ready element.new) (S.left input.old) (S.left input.new) (K.written out.old) (K.written out.new)) }
     ensures halted { IfErr result (λ halt. Halts (write_then text.old.items (rounds_dialog element.old)) halt (S.left input.old) (S.left input.new) (K.written out.old) (K.written out.new)) }
@@ -119,7 +119,7 @@ fn serve_rounds<const N: usize, S: Source, K: Sink>(
     ensures me { OnOk result (element.new.kept.me ≡ element.old.kept.me) }
     ensures text { OnOk result (text.new.items ≡ []) }
     ensures owner { OnOk result (link.new.owner ≡ element.new.kept.me) }
-    ensures own { OnOk result (slice_index_or (rows_of link.new.came.items) link.new.owner [] ≡ []) }
+    ensures own { OnOk result (slice_index_or (came_of link.new) link.new.owner [] ≡ []) }
     ensures read { result ≡ Err Halt.Read → Rose (S.faults input.old) (S.faults input.new) }
     ensures write { result ≡ Err Halt.Write → Rose (K.faults out.old) (K.faults out.new) }
     ensures input_faults { S.faults input.old ≤ S.faults input.new }
@@ -144,7 +144,7 @@ fn serve_cycle<const N: usize, S: Source, K: Sink>(
     requires due { element.old.due ≡ Emit A1 }
     requires cycle { element.old.kept.cycle < MOST_CYCLES }
     requires owner { link.old.owner ≡ element.old.kept.me }
-    requires own { slice_index_or (rows_of link.old.came.items) link.old.owner [] ≡ [] }
+    requires own { slice_index_or (came_of link.old) link.old.owner [] ≡ [] }
     requires empty { text.old.items ≡ [] }
     ensures served { OnOk result (Between (cycle_dialog element.old) (ready element.new) (S.left input.old) (S.left input.new) (K.written out.old) (K.written out.new)) }
     ensures halted { IfErr result (λ halt. Halts (cycle_dialog element.old) halt (S.left input.old) (S.left input.new) (K.written out.old) (K.written out.new)) }
@@ -153,7 +153,7 @@ fn serve_cycle<const N: usize, S: Source, K: Sink>(
     ensures me { OnOk result (element.new.kept.me ≡ element.old.kept.me) }
     ensures text { OnOk result (text.new.items ≡ []) }
     ensures owner { OnOk result (link.new.owner ≡ element.new.kept.me) }
-    ensures own { OnOk result (slice_index_or (rows_of link.new.came.items) link.new.owner [] ≡ []) }
+    ensures own { OnOk result (slice_index_or (came_of link.new) link.new.owner [] ≡ []) }
     ensures read { result ≡ Err Halt.Read → Rose (S.faults input.old) (S.faults input.new) }
     ensures write { result ≡ Err Halt.Write → Rose (K.faults out.old) (K.faults out.new) }
     ensures input_faults { S.faults input.old ≤ S.faults input.new }

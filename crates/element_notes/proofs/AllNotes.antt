@@ -1,55 +1,25 @@
 -- All that is noted, kind after kind: by the senders that count, and how much it is.
-use Rattle.std.proofs.Common.{◌≡◌, ℕ, zero, suc, ◌+◌, ◌<◌, ◌≤◌, Bool, true, false, cond, List, [], ◌∷◌, ◌++◌, length, length-append, map, refl, ap, sym, ◌∙◌, arith, not}
-use Rattle.std.specs.Prelude.{◌&&◌, filter, remove, count_by}
-use Rattle.std.specs.List.{range_with_len, flat_map}
+use Rattle.std.proofs.Common.{◌≡◌, ℕ, ◌+◌, ◌≤◌, Bool, true, false, List, [], ◌++◌, length, length-append, refl, ap, ◌∙◌, arith, not}
+use Rattle.std.specs.Prelude.{◌&&◌, filter, count_by}
 use Rattle.std.proofs.lemmas.List.{length-map}
 use Rattle.std.proofs.lemmas.List.FromFn.{length-range_with_len}
 use Rattle.std.proofs.lemmas.List.Sums.{length-filter, count_by-le-length}
-use Rattle.ftpp_base.specs.Lists.{below, others, cell_at}
+use Rattle.ftpp_base.specs.Lists.{below}
 use Rattle.ftpp_base.specs.Sets.{has}
 use Rattle.ftpp_base.proofs.Counts.{count_apart}
-use Rattle.bit_vote.specs.Vote.{Cell, same_cell}
-use Rattle.two_round.specs.Echoes.{Echoes, relayed_at, result_for}
+use Rattle.bit_vote.specs.Vote.{Cell}
+use Rattle.two_round.specs.Echoes.{Echoes}
 use Rattle.config_table.specs.declared.decisions.Decision.{Decision}
 use Rattle.config_table.specs.declared.decisions.Decision.TheVariants.{Idle, Discard, Exchange}
 use Rattle.config_table.specs.Table.{TableValue}
-use Rattle.local_pattern.specs.Columns.{Pattern}
 use Rattle.syndrome_log.specs.declared.Syndrome.{Syndrome}
 use Rattle.syndrome_log.specs.declared.SyndromeKind.{SyndromeKind}
 use Rattle.syndrome_log.specs.declared.SyndromeKind.TheVariants as kind
 use Rattle.syndrome_log.specs.Log.{noted}
 use Rattle.config_table.specs.Members.{senders}
-use Rattle.element_notes.specs.Notes.{is_off_copy, is_off_relay, off_copies, off_by, off_relays, absent_ones, full_ones, is_off_value, off_values}
-use Rattle.config_table.specs.Kinds.{is_relayed}
+use Rattle.element_notes.specs.Notes.{absent_ones, is_off_value, off_values}
 use Rattle.element_notes.specs.Notes.{accused_where}
 use Rattle.config_table.specs.Members.{is_left_out, stands_at}
-use Rattle.element_notes.proofs.OffRows.{filter_range-same}
-
--- ---- which senders count
-
-filter_but-same : (p q : ℕ → Bool) (a m i n : ℕ) → a + m ≤ n → ((s : ℕ) → s < n → p s ≡ q s)
-    → filter p (remove (range_with_len a m) i) ≡ filter q (remove (range_with_len a m) i)
-filter_but-same p q a zero zero n l same = refl
-filter_but-same p q a zero (suc i) n l same = refl
-filter_but-same p q a (suc m) zero n l same = filter_range-same p q (a + 1) m n (omega arith) (λ s k h. same s k)
-filter_but-same p q a (suc m) (suc i) n l same =
-    λ t. cond (same a (omega arith) t) (a ∷ filter_but-same p q (a + 1) m i n (omega arith) same t) (filter_but-same p q (a + 1) m i n (omega arith) same t)
-
-module _ (cycle : ℕ) (sort : SyndromeKind) (x : Echoes) (n : ℕ) (one other : ℕ → Bool) (same : (s : ℕ) → s < n → one s ≡ other s) where
-  pub copies_counts : off_copies cycle sort x n one ≡ off_copies cycle sort x n other
-  copies_counts =
-      ap (map (λ ne. noted cycle sort ne ne))
-      (filter_but-same (is_off_copy x one) (is_off_copy x other) 0 n x.me n (omega arith)
-      (λ s l. ap (λ b. b && not (same_cell (cell_at x.copies s) (result_for x s))) (same s l)))
-
-  by_counts : (relay : ℕ) → off_by cycle sort x n one relay ≡ off_by cycle sort x n other relay
-  by_counts relay =
-      ap (map (λ s. noted cycle sort relay s))
-      (filter_but-same (is_off_relay x one relay) (is_off_relay x other relay) 0 n relay n (omega arith)
-      (λ s l. ap (λ b. b && not (same_cell (relayed_at x relay s) (result_for x s))) (same s l)))
-
-  pub relays_counts : off_relays cycle sort x n one ≡ off_relays cycle sort x n other
-  relays_counts = λ t. flat_map (λ relay. by_counts relay t) (others n x.me)
 
 -- ---- how many
 

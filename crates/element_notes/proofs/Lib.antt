@@ -6,3 +6,4 @@ pub mod OffRows
 pub mod Standing
 pub mod Accusing
 pub mod AllNotes
+pub mod LookedAt

@@ -6,6 +6,7 @@ ghost use Rattle.ftpp_base.specs.Sets.{has};
 ghost use Rattle.bit_vote.specs.Vote.{same_cell};
 ghost use Rattle.two_round.specs.Echoes.{word_of};
 ghost use Rattle.element_notes.specs.Notes.{off_copies, off_by, off_relays};
+ghost use Rattle.element_notes.specs.AtHand.{HasDiffering};
 ghost use Rattle.element_notes.specs.Words.{is_off_word, IsWhole};
 
 use crate::entries::{Accused, Heading, Notes, note_each};
@@ -86,9 +87,6 @@ fn off_words<const N: usize, const B: usize>(
     ensures { (s : ℕ) → s < N → has result s ≡ is_off_word x.now counts.now of s }
 {
     let mut off = Set8::EMPTY;
-    if counts.bits == 0 {
-        return off;
-    }
     for k in 0..N {
         let sender = Ne::at(k);
         let is_off = is_off_word(x, results, counts, me, of, sender);
@@ -158,30 +156,34 @@ fn note_relays<const N: usize, const B: usize>(
     }
 }
 
-/// Notes the copies of an exchange that differ from the results, and then the relayed rows that do.
+/// Notes the copies of an exchange that differ from the results, and then the relayed rows that do. Only the words about
+/// some senders are looked at: those about any other one that counts are all its result.
 pub(crate) fn note_exchange<const N: usize, const B: usize>(
     x: &TwoRound<N, B>,
     results: &Cells<N, B>,
-    counts: &Set8,
+    differing: &Set8,
     me: Ne,
     kinds: &Kinds,
     cycle: u32,
     out: &mut Notes,
 )
-    requires whole { IsWhole N me x.now counts.now results.now }
+    requires whole { IsWhole N me x.now differing.now results.now }
     requires room { length out.old.items ≤ 39 }
-    ensures items { (senders : ℕ → Bool) → ((s : ℕ) → s < N → has counts.now s ≡ senders s)
+    ensures items { (senders : ℕ → Bool) → HasDiffering N x.now senders differing.now
         → out.new.items ≡ out.old.items ++ off_copies cycle kinds.now.copies x.now N senders ++ off_relays cycle kinds.now.relays x.now N senders }
     ensures few { length out.new.items ≤ length out.old.items + 20 }
 {
+    if differing.bits == 0 {
+        return;
+    }
     let copies = Heading {
         cycle,
         kind: kinds.copies,
     };
-    note_copies(x, results, counts, me, &copies, out);
+    note_copies(x, results, differing, me, &copies, out);
     let relays = Heading {
         cycle,
         kind: kinds.relays,
     };
-    note_relays(x, results, counts, me, &relays, out);
+    note_relays(x, results, differing, me, &relays, out);
 }

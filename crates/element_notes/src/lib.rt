@@ -3,7 +3,7 @@
 
 ghost use Rattle.std.specs.Prelude.{◌≡◌, ◌<◌, ◌≤◌, true, length, option_copied};
 ghost use Rattle.config_table.specs.Kinds.{is_relayed};
-ghost use Rattle.element_notes.specs.AtHand.{AreResults};
+ghost use Rattle.element_notes.specs.AtHand.{AreResults, HasDiffering};
 ghost use Rattle.element_notes.specs.Notes.{notes_of};
 ghost use Rattle.element_notes.specs.Words.{row_in};
 
@@ -17,7 +17,7 @@ mod values;
 use bit_vote::Cells;
 use config_table::{Decision, Table};
 use copies::{Kinds, note_exchange};
-use ftpp_base::{Ne, Row};
+use ftpp_base::{Ne, Row, Set8};
 use local_pattern::SystemPattern;
 use members::{note_absent, note_full};
 use packet_format::Packet;
@@ -58,6 +58,13 @@ pub struct Seen<'a, const N: usize> {
     pub entry: Option<&'a Packet>,
 }
 
+/// Of each exchange senders that count, with all of these about whom a word differs from the result.
+#[derive(Clone, Copy)]
+pub struct Differing {
+    pub patterns: Set8,
+    pub packets: Set8,
+}
+
 /// What the element notes of the cycle, in the order of the kinds, and within a kind by accused and
 /// other. What the row had is gone.
 pub fn note<const N: usize>(seen: &Seen<N>, out: &mut Row<Syndrome, 64>)
@@ -68,6 +75,30 @@ pub fn note<const N: usize>(seen: &Seen<N>, out: &mut Row<Syndrome, 64>)
     requires packets { seen.now.packets.now.me ≡ seen.now.me }
     requires pattern_results { AreResults N seen.now.patterns.now (λ s. true) seen.now.pattern_results.now }
     requires packet_results { AreResults N seen.now.packets.now (is_relayed seen.now.decision.now) seen.now.packet_results.now }
+    ensures noted { out.new.items ≡ notes_of seen.now.cycle seen.now.table.now seen.now.pattern.now seen.now.decision.now seen.now.patterns.now seen.now.packets.now
+        (row_in (option_copied seen.now.entry)) }
+    ensures few { length out.new.items ≤ 52 }
+{
+    let patterns = all_elements();
+    let packets = relayed(seen.decision);
+    note_differing(seen, &Differing { patterns, packets }, out);
+}
+
+/// Like `note`, but looks only at the words about those senders.
+pub fn note_differing<const N: usize>(
+    seen: &Seen<N>,
+    differing: &Differing,
+    out: &mut Row<Syndrome, 64>,
+)
+    requires few { N ≤ 5 }
+    requires elements { seen.now.table.now.n ≡ N }
+    requires among { seen.now.me < N }
+    requires patterns { seen.now.patterns.now.me ≡ seen.now.me }
+    requires packets { seen.now.packets.now.me ≡ seen.now.me }
+    requires pattern_results { AreResults N seen.now.patterns.now (λ s. true) seen.now.pattern_results.now }
+    requires packet_results { AreResults N seen.now.packets.now (is_relayed seen.now.decision.now) seen.now.packet_results.now }
+    requires differing_patterns { HasDiffering N seen.now.patterns.now (λ s. true) differing.now.patterns }
+    requires differing_packets { HasDiffering N seen.now.packets.now (is_relayed seen.now.decision.now) differing.now.packets }
     ensures noted { out.new.items ≡ notes_of seen.now.cycle seen.now.table.now seen.now.pattern.now seen.now.decision.now seen.now.patterns.now seen.now.packets.now
         (row_in (option_copied seen.now.entry)) }
     ensures few { length out.new.items ≤ 52 }
@@ -84,12 +115,30 @@ pub fn note<const N: usize>(seen: &Seen<N>, out: &mut Row<Syndrome, 64>)
         packet_results,
         entry,
     } = *seen;
-    let all = all_elements();
-    let sent = relayed(decision);
+    let Differing {
+        patterns: odd_patterns,
+        packets: odd_packets,
+    } = *differing;
     out.clear();
-    note_exchange(patterns, pattern_results, &all, me, &PATTERNS, cycle, out);
+    note_exchange(
+        patterns,
+        pattern_results,
+        &odd_patterns,
+        me,
+        &PATTERNS,
+        cycle,
+        out,
+    );
     note_absent(table, pattern, decision, cycle, out);
     note_full(table, pattern, decision, cycle, out);
-    note_exchange(packets, packet_results, &sent, me, &PACKETS, cycle, out);
+    note_exchange(
+        packets,
+        packet_results,
+        &odd_packets,
+        me,
+        &PACKETS,
+        cycle,
+        out,
+    );
     note_values(table, decision, packets, packet_results, entry, cycle, out);
 }

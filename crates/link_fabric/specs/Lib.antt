@@ -3,3 +3,4 @@ pub mod Carrying
 pub mod Recorded
 pub mod Lies
 pub mod Rows
+pub mod Ends

@@ -1,6 +1,6 @@
 //! The link of one element.
 
-ghost use Rattle.std.specs.Prelude.{◌≡◌, ◌≢◌, ℕ, ◌<◌, List, [], IfSome, length, slice_index_or, slice_set, replicate};
+ghost use Rattle.std.specs.Prelude.{◌≡◌, ◌≢◌, ℕ, ◌<◌, ◌⊎◌, ◌==◌, List, [], IfSome, IsTrue, false, if◌then◌else◌, length, slice_index_or, slice_set, replicate};
 ghost use Rattle.std.proofs.Common.{rules};
 ghost use Rattle.std.proofs.lemmas.Grind.{common_steps};
 ghost use Rattle.link_fabric.specs.Rows.{rows_of};
@@ -48,6 +48,23 @@ pub trait Link<const N: usize> {
         ensures me { me self.new ≡ me self.old }
         ensures came { came self.new ≡ came self.old };
 
+    /// Replaces the frame that leaves for each other element.
+    fn put_all(&mut self, owner: Ne, frame: &FrameBuf)
+        requires size { (N ≡ 4) ⊎ (N ≡ 5) }
+        requires owner { owner ≡ me self.old }
+        requires width { length (leaves self.old) ≡ N }
+        ensures frames { (to : ℕ) → to < N → slice_index_or (leaves self.new) to [] ≡ (if to == owner then slice_index_or (leaves self.old) to [] else frame.now.items) }
+        ensures me { me self.new ≡ me self.old }
+        ensures came { came self.new ≡ came self.old }
+    {
+        for k in 0..N {
+            let to = Ne::at(k);
+            if to != owner {
+                self.put(to, frame);
+            }
+        }
+    }
+
     /// There is a row for each sender.
     ghost came_width: { (s : Self) → length (came s) ≡ N };
 
@@ -59,35 +76,42 @@ pub trait Link<const N: usize> {
 #[derive(Drop)]
 pub struct LinkEnd<const N: usize> {
     pub owner: Ne,
-    pub came: ArrayVec<FrameBuf, N>,
-    pub leaves: ArrayVec<FrameBuf, N>,
-    pub ghost came_len: { length came.items ≡ N },
-    pub ghost leaves_len: { length leaves.items ≡ N },
+    came: ArrayVec<FrameBuf, N>,
+    leaves: ArrayVec<FrameBuf, N>,
+    /// The frame that leaves for each other element, in place of the rows of `leaves`, while `is_shared` holds.
+    shared: FrameBuf,
+    is_shared: bool,
+    ghost came_len: { length came.items ≡ N },
+    ghost leaves_len: { length leaves.items ≡ N },
 }
 
 impl<const N: usize> LinkEnd<N> {
+    ghost use Rattle.link_fabric.specs.Ends.{came_of, leaves_of};
+
     /// The link of an element to which no frame came yet: all rows are empty.
     pub fn new(me: Ne) -> Self
         requires { me < N }
         ensures owner { result.owner ≡ me }
-        ensures came { rows_of result.came.items ≡ replicate N [] }
-        ensures leaves { rows_of result.leaves.items ≡ replicate N [] }
+        ensures came { came_of result ≡ replicate N [] }
+        ensures leaves { leaves_of result ≡ replicate N [] }
     {
         LinkEnd {
             owner: me,
             came: silence(),
             leaves: silence(),
+            shared: FrameBuf::new(),
+            is_shared: false,
         }
     }
 
     /// A frame comes from an element, in place of the one that came before.
-    #[tactic(auto, using(crate::proofs::Written::rows_write))]
+    #[tactic(auto, using(crate::proofs::Written::rows_write), unfolding(crate::specs::Ends::leaves_of))]
     pub fn arrive(&mut self, from: Ne, frame: &FrameBuf)
         requires below { from < N }
         requires other { from ≢ self.old.owner }
-        ensures frame { rows_of self.new.came.items ≡ slice_set (rows_of self.old.came.items) from frame.now.items }
+        ensures frame { came_of self.new ≡ slice_set (came_of self.old) from frame.now.items }
         ensures owner { self.new.owner ≡ self.old.owner }
-        ensures leaves { rows_of self.new.leaves.items ≡ rows_of self.old.leaves.items }
+        ensures leaves { leaves_of self.new ≡ leaves_of self.old }
     {
         copy_frame(frame, &mut self.came[from.index()]);
     }
@@ -96,9 +120,39 @@ impl<const N: usize> LinkEnd<N> {
     pub fn leaving(&self, to: Ne) -> &FrameBuf
         requires below { to < N }
         requires other { to ≢ self.now.owner }
-        ensures { result.now.items ≡ slice_index_or (rows_of self.now.leaves.items) to [] }
+        ensures { result.now.items ≡ slice_index_or (leaves_of self.now) to [] }
     {
-        &self.leaves[to.index()]
+        if self.is_shared {
+            &self.shared
+        } else {
+            &self.leaves[to.index()]
+        }
+    }
+
+    /// Each element gets its own row of what leaves.
+    #[inline(never)]
+    #[tactic(auto, unfolding(crate::specs::Ends::leaves_of))]
+    fn spread(&mut self)
+        requires { IsTrue self.old.is_shared }
+        ensures own { self.new.is_shared ≡ false }
+        ensures owner { self.new.owner ≡ self.old.owner }
+        ensures came { self.new.came ≡ self.old.came }
+        ensures leaves { leaves_of self.new ≡ leaves_of self.old }
+    {
+        fill(&self.shared, &mut self.leaves);
+        self.is_shared = false;
+    }
+
+    /// A frame leaves for an element alone, where the rows of the others hold what leaves for them.
+    fn put_own(&mut self, to: Ne, frame: &FrameBuf)
+        requires own { self.old.is_shared ≡ false }
+        requires below { to < N }
+        requires other { to ≢ self.old.owner }
+        ensures frame { leaves_of self.new ≡ slice_set (leaves_of self.old) to frame.now.items }
+        ensures owner { self.new.owner ≡ self.old.owner }
+        ensures came { self.new.came ≡ self.old.came }
+    {
+        copy_frame(frame, &mut self.leaves[to.index()]);
     }
 }
 
@@ -113,16 +167,29 @@ fn silence<const N: usize>() -> ArrayVec<FrameBuf, N>
     row
 }
 
+/// Writes a frame over the one of each element.
+fn fill<const N: usize>(frame: &FrameBuf, rows: &mut ArrayVec<FrameBuf, N>)
+    requires { length rows.old.items ≡ N }
+    ensures rows { rows_of rows.new.items ≡ replicate N frame.now.items }
+    ensures count { length rows.new.items ≡ N }
+{
+    for k in 0..N {
+        copy_frame(frame, &mut rows[k]);
+    }
+}
+
 impl<const N: usize> Link<N> for LinkEnd<N> {
+    ghost use Rattle.link_fabric.specs.Ends.{came_of, leaves_of, leaves_wide};
+
     ghost me = { λ s. s.owner };
 
-    ghost came = { λ s. rows_of s.came.items };
+    ghost came = { λ s. came_of s };
 
-    ghost leaves = { λ s. rows_of s.leaves.items };
+    ghost leaves = { λ s. leaves_of s };
 
     ghost came_width = { λ s. Prim.search (rules, common_steps) };
 
-    ghost leaves_width = { λ s. Prim.search (rules, common_steps) };
+    ghost leaves_width = { λ s. leaves_wide s };
 
     fn take(&mut self, from: Ne, into: &mut FrameBuf) {
         copy_frame(&self.came[from.index()], into);
@@ -132,8 +199,15 @@ impl<const N: usize> Link<N> for LinkEnd<N> {
         Some(&self.came[from.index()])
     }
 
-    #[tactic(auto, using(crate::proofs::Written::rows_write))]
     fn put(&mut self, to: Ne, frame: &FrameBuf) {
-        copy_frame(frame, &mut self.leaves[to.index()]);
+        if self.is_shared {
+            self.spread();
+        }
+        self.put_own(to, frame);
+    }
+
+    fn put_all(&mut self, _owner: Ne, frame: &FrameBuf) {
+        copy_frame(frame, &mut self.shared);
+        self.is_shared = true;
     }
 }

@@ -1,4 +1,4 @@
-ghost use Rattle.std.specs.Prelude.{◌<◌};
+ghost use Rattle.std.specs.Prelude.{◌≡◌, ◌<◌};
 
 use frame_format::FrameBuf;
 use ftpp_base::{Ne, Round, Slot};
@@ -99,4 +99,23 @@ fn a_link_keeps_a_row_for_each_element(rt: HostRuntime) {
     }
     assert!(rt; came(&mut link, other, Some(1)));
     assert!(rt; other != link.owner && is_frame(link.leaving(other), 2));
+}
+
+/// What leaves a link for element 1 and for element 3: frames of one byte each.
+fn leave(link: &LinkEnd<4>, first: u8, second: u8) -> bool
+    requires { link.now.owner ≡ 0 }
+{
+    is_frame(link.leaving(Ne::at(1)), first) && is_frame(link.leaving(Ne::at(3)), second)
+}
+
+#[test]
+fn a_frame_for_all_leaves_for_each_other_element(rt: HostRuntime) {
+    let me = Ne::at(0);
+    let mut link: LinkEnd<4> = LinkEnd::new(me);
+    link.put_all(me, &frame(1));
+    assert!(rt; leave(&link, 1, 1));
+    link.put(Ne::at(3), &frame(2));
+    assert!(rt; leave(&link, 1, 2));
+    link.put_all(me, &frame(3));
+    assert!(rt; leave(&link, 3, 3));
 }

@@ -11,7 +11,7 @@ ghost use Rattle.scoreboard.specs.Times.{AreBefore, AreOthersHeldBy, AreLinesOf,
 
 use crate::choice::put_choosable;
 use crate::decision::{decided, taken};
-use crate::lookups::{blank_line, groups_in, is_valid, line_of};
+use crate::lookups::{blank_line, groups_in, line_of};
 use crate::marks::mark_all;
 use crate::votes::CycleFlags;
 use config_table::{Decision, StateRow, Table, VotedFlags};
@@ -196,7 +196,8 @@ impl Scoreboard {
     {
         let mut lines: Row<StateRow, MOST_GROUPS> = Row::new();
         lines.try_extend_from_slice(rows.as_slice()).unwrap();
-        is_valid(table);
+        // the order of the lines follows from a valid table, which only a call tells of
+        let _valid = groups_in(table);
         self.lines = lines;
     }
 }

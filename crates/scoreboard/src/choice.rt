@@ -11,7 +11,7 @@ ghost use Rattle.scoreboard.specs.Choice.{where_true, reason, takes_at, all_take
 ghost use Rattle.scoreboard.specs.Steps.{request_from, is_late, can_end, may_be_chosen, is_choosable, sinces_in, ascend};
 ghost use Rattle.scoreboard.specs.Times.{AreBefore, line_number};
 
-use crate::lookups::{group_near, groups_in, lag_near, place_of, request_near};
+use crate::lookups::{blank_line, group_near, groups_in, line_near, place_of, request_near};
 use crate::marks::Waiting;
 use crate::votes::CycleFlags;
 use config_table::{Group, GroupFlags, StateRow, Table};
@@ -48,40 +48,40 @@ fn no_group(table: &Table, desc: &Descriptor, place: usize) -> Option<u8>
     }
 }
 
-/// Whether a live member says not full or lags by more than its group's timeout. The line of the group, whose number is
-/// `vid`, should stand at that place.
-fn takes_at(
-    group: &Group,
-    one: &GroupFlags,
-    lines: &[StateRow],
-    place: usize,
-    vid: u8,
-    index: u8,
-    member: &Proc,
-) -> bool
+/// Whether a live member says not full or lags by more than its group's timeout. The line is that of the group.
+fn takes_at(group: &Group, one: &GroupFlags, line: &StateRow, index: u8, member: &Proc) -> bool
     requires place { index < 4 }
     requires ne { member.now.ne < 8 }
-    requires order { ascend 0 (map line_number lines.now) ≡ true }
-    ensures { result ≡ takes_at group.now one.now (line_of lines.now vid) (index, member.now) }
+    ensures { result ≡ takes_at group.now one.now line.now (index, member.now) }
 {
-    one.space.has(member.ne) || lag_near(lines, place, vid, index) > u32::from(group.tr)
+    one.space.has(member.ne) || line.lags[usize::from(index)] > u32::from(group.tr)
 }
 
-/// Whether each live member of a group says not full or lags by more than the timeout. The line of the group, whose
-/// number is `vid`, should stand at that place.
-fn all_take(group: &Group, one: &GroupFlags, lines: &[StateRow], place: usize, vid: u8) -> bool
-    requires bounded { IsBounded 5 group.now }
-    requires order { ascend 0 (map line_number lines.now) ≡ true }
-    ensures { result ≡ all_take group.now one.now (line_of lines.now vid) }
+/// Whether each live member of a group, whose line this is, says not full or lags by more than the timeout.
+fn all_take(group: &Group, one: &GroupFlags, line: &StateRow) -> bool
+    requires { IsBounded 5 group.now }
+    ensures { result ≡ all_take group.now one.now line.now }
 {
     let members = group.members.as_slice();
     for (seat, member) in members.iter().enumerate() {
         let index = seat as u8;
-        if group.is_live(index) && !takes_at(group, one, lines, place, vid, index, member) {
+        if group.is_live(index) && !takes_at(group, one, line, index, member) {
             return false;
         }
     }
     true
+}
+
+/// The same of a group whose line, that of number `vid`, should stand at that place.
+fn all_take_near(group: &Group, one: &GroupFlags, lines: &[StateRow], place: usize, vid: u8) -> bool
+    requires bounded { IsBounded 5 group.now }
+    requires order { ascend 0 (map line_number lines.now) ≡ true }
+    ensures { result ≡ all_take group.now one.now (line_of lines.now vid) }
+{
+    match line_near(lines, place, vid) {
+        Some(line) => all_take(group, one, line),
+        None => all_take(group, one, &blank_line(vid)),
+    }
 }
 
 /// Whether the group of that number, which should stand at that place, takes a packet now.
@@ -96,7 +96,7 @@ fn is_granted(
     ensures { result ≡ is_granted table.now flags.now lines.now vid }
 {
     match (group_near(table, place, vid), flags.near(place, vid)) {
-        (Some(group), Some(one)) => one.most_space && all_take(group, one, lines, place, vid),
+        (Some(group), Some(one)) => one.most_space && all_take_near(group, one, lines, place, vid),
         _ => false,
     }
 }

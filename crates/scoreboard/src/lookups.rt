@@ -4,7 +4,7 @@
 ghost use Rattle.std.specs.Prelude.{◌≡◌, ◌≤◌, ◌<◌, length, find, map, take_while, true, All, IfSome, option_copied};
 ghost use Rattle.config_table.specs.Bounds.{IsBounded};
 ghost use Rattle.config_table.specs.Table.{IsValid, group_named};
-ghost use Rattle.scoreboard.specs.Board.{blank_line, is_line_of, line_of, lag_of};
+ghost use Rattle.scoreboard.specs.Board.{blank_line, is_line_of, line_of};
 ghost use Rattle.scoreboard.specs.Steps.{ascend, is_other_group};
 ghost use Rattle.scoreboard.specs.Times.{line_number};
 
@@ -41,7 +41,7 @@ pub(crate) fn line_of(lines: &[StateRow], vid: u8) -> StateRow
 }
 
 /// The line of that number, in lines whose numbers ascend. It should stand at that place.
-fn line_near(lines: &[StateRow], place: usize, vid: u8) -> Option<&StateRow>
+pub(crate) fn line_near(lines: &[StateRow], place: usize, vid: u8) -> Option<&StateRow>
     requires { ascend 0 (map line_number lines.now) ≡ true }
     ensures { option_copied result ≡ find (is_line_of vid) lines.now }
 {
@@ -71,15 +71,14 @@ pub(crate) fn request_near(lines: &[StateRow], place: usize, vid: u8) -> Option<
     }
 }
 
-/// A lag of a group, whose line should stand at that place.
-pub(crate) fn lag_near(lines: &[StateRow], place: usize, vid: u8, index: u8) -> u32
-    requires order { ascend 0 (map line_number lines.now) ≡ true }
-    requires index { index < 4 }
-    ensures { result ≡ lag_of lines.now vid index }
+/// The lags of a group, whose line should stand at that place.
+pub(crate) fn lags_near(lines: &[StateRow], place: usize, vid: u8) -> [u32; 4]
+    requires { ascend 0 (map line_number lines.now) ≡ true }
+    ensures { result ≡ (line_of lines.now vid).lags }
 {
     match line_near(lines, place, vid) {
-        Some(line) => line.lags[usize::from(index)],
-        None => 0,
+        Some(line) => line.lags,
+        None => [0; 4],
     }
 }
 
@@ -91,13 +90,6 @@ pub(crate) fn groups_in(table: &Table) -> &[Group]
     ensures valid { IsValid table.now }
 {
     table.groups()
-}
-
-/// Every table is valid. This says so, and does nothing.
-pub(crate) fn is_valid(table: &Table)
-    ensures { IsValid table.now }
-{
-    let _groups = table.groups();
 }
 
 /// The group of that number, with members at five elements at most. It is searched for, which `group_near` seldom needs.

@@ -6,7 +6,7 @@ ghost use Rattle.scoreboard.specs.Board.{Waiting, line_of, lacks_space, waiting_
 ghost use Rattle.scoreboard.specs.Steps.{ascend};
 ghost use Rattle.scoreboard.specs.Times.{IsBefore, AreBefore, line_number};
 
-use crate::lookups::{blank_line, groups_in, lag_near, request_near};
+use crate::lookups::{blank_line, groups_in, lags_near, request_near};
 use crate::votes::CycleFlags;
 use config_table::{Group, GroupFlags, StateRow, Table};
 use ftpp_base::{MOST_CYCLES, MOST_GROUPS, Row};
@@ -113,12 +113,12 @@ fn lags_after(group: &Group, one: &GroupFlags, lines: &[StateRow], place: usize)
     ensures { result ≡ lags_after group.now one.now (line_of lines.now group.now.vid).lags }
 {
     if some_lag(group, one) {
-        let vid = group.vid;
+        let lags = lags_near(lines, place, group.vid);
         [
-            lag_after(group, one, lag_near(lines, place, vid, 0), 0),
-            lag_after(group, one, lag_near(lines, place, vid, 1), 1),
-            lag_after(group, one, lag_near(lines, place, vid, 2), 2),
-            lag_after(group, one, lag_near(lines, place, vid, 3), 3),
+            lag_after(group, one, lags[0], 0),
+            lag_after(group, one, lags[1], 1),
+            lag_after(group, one, lags[2], 2),
+            lag_after(group, one, lags[3], 3),
         ]
     } else {
         [0; 4]

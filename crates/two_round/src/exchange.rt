@@ -1,9 +1,10 @@
 //! What one element holds of an exchange, and what it makes of it.
 
-ghost use Rattle.std.specs.Prelude.{◌≡◌, ◌≢◌, ◌↔◌, ℕ, ◌<◌, ◌≤◌, ◌^◌, IsTrue, option_copied, length, slice_index};
+ghost use Rattle.std.specs.Prelude.{◌≡◌, ◌≢◌, ◌↔◌, ℕ, ◌<◌, ◌≤◌, ◌^◌, true, false, IsTrue, option_copied, length, slice_index};
 ghost use Rattle.bit_vote.specs.Vote.{IsCell};
 ghost use Rattle.ftpp_base.specs.Lists.{cell_at, each_below};
-ghost use Rattle.two_round.specs.Echoes.{no_echoes, with_copy, with_relayed, relayed_at, word_of, result_for, result_of};
+ghost use Rattle.ftpp_base.specs.Sets.{has};
+ghost use Rattle.two_round.specs.Echoes.{no_echoes, with_copy, with_relayed, relayed_at, word_of, result_for, result_of, AreAlike, IsUnanimous};
 ghost use Rattle.two_round.specs.Agreement.{IsAgreed};
 
 use bit_vote::{Cells, same_bytes, vote_lanes};
@@ -11,8 +12,8 @@ use ftpp_base::{Ne, Row, Set8};
 use std::marker::Model;
 
 /// What every optional row is: a row of bytes of its width, or none.
-fn is_cell<const B: usize>(cell: &Option<[u8; B]>)
-    ensures { IsCell B cell.now }
+fn is_cell<const B: usize>(cell: Option<&[u8; B]>)
+    ensures { IsCell B (option_copied cell.entry) }
 {
     if let Some(row) = cell {
         is_row(row);
@@ -173,40 +174,32 @@ impl<const N: usize, const B: usize> TwoRound<N, B> {
         }
     }
 
-    /// The own copy of a source.
-    fn own_copy(&self, source: usize) -> Option<[u8; B]>
-        requires { source < N }
-        ensures copy { result ≡ cell_at self.now.copies source }
-        ensures cell { IsCell B result }
-        ensures count { length self.now.copies ≡ N }
-    {
-        let copy = self.copies.get(source);
-        is_cell(&copy);
-        copy
-    }
-
     /// Whether the word of an element about a source is the own copy.
     fn is_own_copy(&self, of: usize, source: usize) -> bool
         requires of { of < N }
         requires source { source < N }
-        ensures { IsTrue result → word_of self.now source of ≡ cell_at self.now.copies source }
+        ensures { IsTrue result ↔ (word_of self.now source of ≡ cell_at self.now.copies source) }
     {
         of == self.me.index() || is_same(self.relayed[of].row(source), self.copies.row(source))
     }
 
-    /// Whether there are two elements or more, and the word of each but the source is the own copy.
+    /// Whether there are two elements or more, and the word of each but the source is the own copy. Then so is the vote.
     fn is_alike(&self, source: usize) -> bool
         requires { source < N }
-        ensures alike { IsTrue result → (k : ℕ) → k < N → k ≢ source → word_of self.now source k ≡ cell_at self.now.copies source }
-        ensures some { IsTrue result → 2 ≤ N }
+        ensures alike { IsTrue result ↔ AreAlike N self.now source }
+        ensures voted { IsTrue result → cell_at self.now.copies source ≡ result_for self.now source }
     {
         let elements = self.copies.len();
+        if elements < 2 {
+            return false;
+        }
         for of in 0..elements {
             if of != source && !self.is_own_copy(of, source) {
                 return false;
             }
         }
-        2 <= elements
+        is_cell(self.copies.row(source));
+        true
     }
 
     /// The vote over the words of all elements but the source, counted bit by bit.
@@ -231,7 +224,7 @@ impl<const N: usize, const B: usize> TwoRound<N, B> {
         ensures { result ≡ result_for self.now source }
     {
         if self.is_alike(source) {
-            self.own_copy(source)
+            self.copies.get(source)
         } else {
             self.counted(source)
         }
@@ -253,8 +246,9 @@ impl<const N: usize, const B: usize> TwoRound<N, B> {
         ensures results { result ≡ each_below N (result_for self.now) }
         ensures few { N ≤ 5 }
     {
-        // A set has all of them, since there are at most five.
-        self.results_of(Set8 { bits: 0xff })
+        let mut results = self.copies;
+        let _differing = self.settle_all(&mut results);
+        results
     }
 
     /// The results for the sources of a set, by source. The results for all others are absent.
@@ -262,25 +256,41 @@ impl<const N: usize, const B: usize> TwoRound<N, B> {
         ensures results { result ≡ each_below N (result_of sources self.now) }
         ensures few { N ≤ 5 }
     {
-        // every place is written anew
         let mut results = self.copies;
-        self.results_into(sources, &mut results);
+        let _differing = self.settle(sources, &mut results);
         results
     }
 
-    /// Like `results_of`, but writes the results in place of other ones.
-    pub fn results_into(&self, sources: Set8, results: &mut Cells<N, B>)
+    /// Like `results_of`, but writes the results in place of other ones, and tells about which sources of the set the
+    /// words differ. The words about any other source of the set are all equal to its result.
+    pub fn settle(&self, sources: Set8, results: &mut Cells<N, B>) -> Set8
         ensures results { results.new ≡ each_below N (result_of sources self.now) }
         ensures few { N ≤ 5 }
+        ensures differing { (s : ℕ) → s < N → (has result s ≡ true) ↔ ((has sources s ≡ true) × (AreAlike N self.now s → ⊥)) }
+        ensures alike { (s : ℕ) → s < N → has sources s ≡ true → has result s ≡ false → IsUnanimous N self.now s }
     {
-        // there are as many places as copies, which only a call of them tells
-        let _places = results.len();
+        // the copy is the result where the words are alike
+        *results = self.copies;
+        let mut differing = Set8::EMPTY;
         for source in 0..self.copies.len() {
-            if sources.has(source as u8) {
-                results.set(source, self.voted(source));
-            } else {
+            if !sources.has(source as u8) {
                 results.set(source, None);
+            } else if !self.is_alike(source) {
+                results.set(source, self.counted(source));
+                differing = differing.with(source as u8);
             }
         }
+        differing
+    }
+
+    /// The same for all sources.
+    pub fn settle_all(&self, results: &mut Cells<N, B>) -> Set8
+        ensures results { results.new ≡ each_below N (result_for self.now) }
+        ensures few { N ≤ 5 }
+        ensures differing { (s : ℕ) → s < N → (has result s ≡ true) ↔ (AreAlike N self.now s → ⊥) }
+        ensures alike { (s : ℕ) → s < N → has result s ≡ false → IsUnanimous N self.now s }
+    {
+        // A set has all of them, since there are at most five.
+        self.settle(Set8 { bits: 0xff }, results)
     }
 }

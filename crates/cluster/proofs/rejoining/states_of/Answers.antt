@@ -1,8 +1,8 @@
-use Rattle.std.proofs.Common.{arith}
 use Rattle.std.specs.Prelude.{None}
 use Rattle.std.proofs.lemmas.List.FromFn.{fill_by_all}
 use Rattle.cluster.specs.Stations.{elements_of}
 use Rattle.cluster.specs.Rejoins.{state_told}
+use Rattle.cluster.proofs.Places.{gone_through}
 use Rattle.cluster.proofs.RejoinStations.{told_more, tells_more}
 use Rattle.cluster.proofs.rejoining.states_of.Goals as goal
 
@@ -17,4 +17,4 @@ loop-place-preserved g c =
 
 pub returns-clause-told : goal.returns-clause-told
 returns-clause-told g c =
-    fill_by_all (state_told (elements_of c.args.stations.now)) c.loop-place.states g.row.N None c.loop-place.invariant.long (λ s l. c.loop-place.invariant.put s (omega arith))
+    fill_by_all (state_told (elements_of c.args.stations.now)) c.loop-place.states g.row.N None c.loop-place.invariant.long (λ s l. c.loop-place.invariant.put s (gone_through g.row.N c.loop-place.place s c.loop-place-test.false l))

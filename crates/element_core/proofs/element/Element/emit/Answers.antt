@@ -20,4 +20,4 @@ returns-clause-frames g c = λ to l.
     let me = c.me.ensures.me ∙ ap (λ (e : ElementValue). e.kept.me) c.self.view_is in
     let frame = c.write_frame.ensures ∙ ap (frame_bytes (record { cycle = c.self.inside.kept.cycle; round = c.args.round }) c.self.inside.kept.me) cells
     ∙ ap (λ (e : ElementValue). frame_of e c.args.round) c.self.view_is in
-    c.send_all.ensures.frames to l ∙ (λ i. cond (to == me i) (frames_in (g.L.Link.leaves c.args.link.now) to) (frame i))
+    c.put_all.ensures.frames to l ∙ (λ i. cond (to == me i) (frames_in (g.L.Link.leaves c.args.link.now) to) (frame i))

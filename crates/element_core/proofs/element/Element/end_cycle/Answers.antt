@@ -4,7 +4,7 @@ use Rattle.two_round.specs.Echoes.{Echoes, no_echoes}
 use Rattle.config_table.specs.declared.decisions.Decision.{Decision}
 use Rattle.config_table.specs.Table.{IsValid}
 use Rattle.syndrome_log.specs.Log.{last_kept}
-use Rattle.element_notes.specs.AtHand.{AreResults}
+use Rattle.element_notes.specs.AtHand.{AreResults, HasDiffering}
 use Rattle.element_core.specs.Sent.{is_relayed}
 use Rattle.element_core.specs.Element.{Kept, own_entry, own_update, own_service, own_handed, made, kept_after}
 use Rattle.element_core.specs.Noted.{noted_by, decided_by}
@@ -20,17 +20,11 @@ use Rattle.element_core.specs.Pending.{element_with}
 use Rattle.element_core.specs.Told.{told_of}
 use Rattle.element_core.proofs.StepLaws.{kept_me}
 use Rattle.element_core.proofs.Holding.{few_by, holds_begun}
-use Rattle.element_core.proofs.Results.{results_are, decision_fits_now, IsAtHand, served_by, kept_ends, told_ends, ended_value}
+use Rattle.element_core.proofs.Results.{results_are, differing_are, decision_fits_now, IsAtHand, served_by, kept_ends, told_ends, ended_value}
 use Rattle.element_core.proofs.element.Element.end_cycle.Goals as goal
 use Rattle.element_core.proofs.element.Element.end_cycle.Given.{Over}
 
 -- ---- what the calls need
-
--- the results at hand are those of the senders that are relayed
-are_relayed : (g : Over) (c : goal.After-results-1 g) → AreResults g.row.N c.self.inside.packets (is_relayed c.self.inside.pending.decision) c.results_of-results.result
-are_relayed g c =
-    results_are g.row.N c.self.inside.packets (is_relayed c.self.inside.pending.decision) c.relayed.result c.results_of-results.result
-    (few_by g.row.N c.self.invariant.0.size) c.results_of-results.ensures.results c.relayed.ensures
 
 pub entry_of-packet-requires : goal.entry_of-packet-requires
 entry_of-packet-requires g c =
@@ -47,7 +41,10 @@ entry_of-packet-requires g c =
           few,
           (
             ap (λ t. t.n) c.table.ensures.table ∙ h.elements,
-            (decision_fits_now g.row.N e s.pending h due valid, are_relayed g c),
+            (
+              decision_fits_now g.row.N e s.pending h due valid,
+              results_are g.row.N s.packets (is_relayed s.pending.decision) c.relayed-sent.result c.settle-differing.new.results few c.settle-differing.ensures.results c.relayed-sent.ensures,
+            ),
           ),
         ),
       ),
@@ -70,7 +67,7 @@ update_of-asked-requires g c =
             ap (λ t. t.n) c.table-2.ensures.table ∙ h.elements,
             (
               decision_fits_now g.row.N e s.pending h due valid,
-              results_are g.row.N s.packets (is_relayed s.pending.decision) c.relayed.result c.results_of-results.result few c.results_of-results.ensures.results c.relayed.ensures,
+              results_are g.row.N s.packets (is_relayed s.pending.decision) c.relayed-sent.result c.settle-differing.new.results few c.settle-differing.ensures.results c.relayed-sent.ensures,
             ),
           ),
         ),
@@ -86,9 +83,13 @@ note-requires g c =
     let decision = (h.agreed (rw due (omega arith))).decision in
     let packets : s.packets ≡ record { me = s.kept.me; copies = s.packets.copies; relayed = s.packets.relayed } =
     λ i. record { me = c.self.invariant.2 i; copies = s.packets.copies; relayed = s.packets.relayed } in
-    let are = results_are g.row.N s.packets (is_relayed s.pending.decision) c.relayed.result c.results_of-results.result few c.results_of-results.ensures.results c.relayed.ensures in
-    let results = subst (λ (x : Echoes). AreResults g.row.N x (is_relayed (decided_by s.kept s.patterns.copies s.patterns.relayed)) c.results_of-results.result) packets
-    (subst (λ (d : Decision). AreResults g.row.N s.packets (is_relayed d) c.results_of-results.result) decision are) in
+    let are = results_are g.row.N s.packets (is_relayed s.pending.decision) c.relayed-sent.result c.settle-differing.new.results few c.settle-differing.ensures.results c.relayed-sent.ensures in
+    let results = subst (λ (x : Echoes). AreResults g.row.N x (is_relayed (decided_by s.kept s.patterns.copies s.patterns.relayed)) c.settle-differing.new.results) packets
+    (subst (λ (d : Decision). AreResults g.row.N s.packets (is_relayed d) c.settle-differing.new.results) decision are) in
+    let odd = differing_are g.row.N s.packets (is_relayed s.pending.decision) c.relayed-sent.result c.settle-differing.result few c.relayed-sent.ensures
+    (λ k l e. ((c.settle-differing.ensures.differing k l).0 e).0) c.settle-differing.ensures.alike in
+    let differing = subst (λ (x : Echoes). HasDiffering g.row.N x (is_relayed (decided_by s.kept s.patterns.copies s.patterns.relayed)) c.settle-differing.result) packets
+    (subst (λ (d : Decision). HasDiffering g.row.N s.packets (is_relayed d) c.settle-differing.result) decision odd) in
     let entry = c.as_ref.ensures.value ∙ c.entry_of-packet.ensures ∙ (λ i. own_entry (c.table.ensures.table i) (decision i) (packets i)) in (
       elim h.size [ inl four ↦ rw four (omega arith) | inr five ↦ rw five (omega arith) ],
       (
@@ -96,8 +97,11 @@ note-requires g c =
         (
           c.requires,
           (
-            subst (λ (v : ElementValue). AreResults g.row.N (packets_now v) (is_relayed (decision_now v)) c.results_of-results.result) c.self.view_is results,
-            subst (λ (v : ElementValue). option_copied c.as_ref.result ≡ own_entry v.kept.table (decision_now v) (packets_now v)) c.self.view_is entry,
+            subst (λ (v : ElementValue). AreResults g.row.N (packets_now v) (is_relayed (decision_now v)) c.settle-differing.new.results) c.self.view_is results,
+            (
+              subst (λ (v : ElementValue). HasDiffering g.row.N (packets_now v) (is_relayed (decision_now v)) c.settle-differing.result) c.self.view_is differing,
+              subst (λ (v : ElementValue). option_copied c.as_ref.result ≡ own_entry v.kept.table (decision_now v) (packets_now v)) c.self.view_is entry,
+            ),
           ),
         ),
       ),

@@ -24,7 +24,7 @@ invariant_of-self g c =
     let cells = own_cells_stay e A2 frames due (subst (λ k. s.kept.me < k) (sym h.elements) h.below) h.cells in
     let now : c.hear_echoes.new.exchange ≡ patterns_now after = is ∙ (λ i. record { me = c.self.invariant.1 i; copies = s.patterns.copies; relayed = after.heard.relayed_patterns }) in
     let agreed = agreed_midst g.row.N after c.decide.new.self c.hear_echoes.new.exchange h.elements cells (omega arith) now
-    c.decide.ensures.results c.decide.ensures.pattern c.decide.ensures.decision c.decide.ensures.after c.decide.ensures.lines c.decide.ensures.earlier in (
+    c.decide.ensures.results c.decide.ensures.differing c.decide.ensures.pattern c.decide.ensures.decision c.decide.ensures.after c.decide.ensures.lines c.decide.ensures.earlier in (
       subst (λ (x : Echoes). IsElement g.row.N (element_with s.kept x s.packets (Emit B1) last s.log) c.decide.new.self) (sym is)
           (holds_agreed g.row.N e s.pending c.decide.new.self frames h due agreed),
       ap (λ (x : Echoes). x.me) is ∙ c.self.invariant.1,

@@ -12,4 +12,4 @@ invariant_of-self c =
     let extended : Scoreboard = c.new-lines.result.items ++ c.as_slice.result.now in
     let all : lines ≡ extended = subst (λ r. OnOk r (lines ≡ extended)) c.unwrap.ensures c.try_extend_from_slice.ensures.ok in
     let same : lines ≡ c.args.rows.now.items = all ∙ ap (λ (front : Scoreboard). front ++ c.as_slice.result.now) c.new-lines.ensures ∙ c.as_slice.ensures.value in
-    lines_ascend c.args.table.now lines c.is_valid.ensures (subst P (sym same) c.requires.lines)
+    lines_ascend c.args.table.now lines c.groups_in-valid.ensures.valid (subst P (sym same) c.requires.lines)
