@@ -109,6 +109,7 @@ fn leave(link: &LinkEnd<4>, first: u8, second: u8) -> bool
 }
 
 #[test]
+#[tactic(auto, using(link_fabric::specs::Ends::leaves_wide))]
 fn a_frame_for_all_leaves_for_each_other_element(rt: HostRuntime) {
     let me = Ne::at(0);
     let mut link: LinkEnd<4> = LinkEnd::new(me);
