@@ -62,7 +62,7 @@ fn main(rt: HostRuntime) -> io::Result<ExitCode> {
             Ok(ExitCode::from(0))
         }
         None => {
-            println!(rt; "no memory")?;
+            println!(rt; "no memory, or more cycles than a script of this case can have")?;
             Ok(ExitCode::from(9))
         }
     }

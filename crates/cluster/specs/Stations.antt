@@ -1,17 +1,19 @@
--- Elements with their links, before and after a step.
+-- Elements with their links, before and after a step, and what was carried between them.
 use Rattle.std.specs.Prelude.{◌≡◌, ◌≢◌, ℕ, ◌<◌, List, length, map, slice_index_or}
 use Rattle.ftpp_base.specs.declared.element.Round.{Round}
 use Rattle.ftpp_base.specs.declared.element.Round.TheVariants.{A1}
 use Rattle.ftpp_base.specs.declared.limits.TheConstants.{MOST_CYCLES}
-use Rattle.link_fabric.specs.Ends.{leaves_of}
+use Rattle.link_fabric.specs.Ends.{came_of, leaves_of}
 use Rattle.element_core.specs.declared.Due.{Due}
 use Rattle.element_core.specs.declared.Due.TheVariants.{Emit, Absorb}
 use Rattle.element_core.specs.ElementValue.{ElementValue, after_emit, after_absorb, frame_of, frames_in}
-use Rattle.cluster.specs.Delivered.{column_in}
 use Rattle.cluster.specs.declared.stations.Station.{Station}
 
 module _ {N : ℕ} where
-  -- the frame that leaves an element for a receiver
+  -- the frame that came to an element from a sender, and the one that leaves it for a receiver
+  abbrev pub came_at : Station N → ℕ → List ℕ
+  came_at s from = frames_in (came_of s.link) from
+
   abbrev pub leaves_at : Station N → ℕ → List ℕ
   leaves_at s to = frames_in (leaves_of s.link) to
 
@@ -21,15 +23,15 @@ module _ {N : ℕ} where
     pub owner : new.link.owner ≡ old.link.owner
     pub frames : (to : ℕ) → to < N → to ≢ old.element.kept.me → leaves_at new to ≡ frame_of old.element round
 
-  -- An element took the frames that came to it.
-  pub record Absorbs (round : Round) (rows : List (List (List ℕ))) (old new : Station N) : Type 0 where
-    pub element : new.element ≡ after_absorb round (frames_in (column_in rows old.link.owner)) old.element
+  -- An element took the frames that came.
+  pub record Absorbs (round : Round) (old new : Station N) : Type 0 where
+    pub element : new.element ≡ after_absorb round (frames_in (came_of old.link)) old.element
     pub owner : new.link.owner ≡ old.link.owner
 
-  -- an element took a step; these rows have what came
-  abbrev pub Steps : Due → List (List (List ℕ)) → Station N → Station N → Type 0
-  Steps (Emit round) rows old new = Emits round old new
-  Steps (Absorb round) rows old new = Absorbs round rows old new
+  -- an element took a step
+  abbrev pub Steps : Due → Station N → Station N → Type 0
+  Steps (Emit round) old new = Emits round old new
+  Steps (Absorb round) old new = Absorbs round old new
 
   -- An element is about to take a step.
   pub record IsReady (due : Due) (s : Station N) : Type 0 where
@@ -41,12 +43,21 @@ module _ {N : ℕ} where
   abbrev pub AllReady : Due → List (Station N) → Type 0
   AllReady due stations = (k : ℕ) (d : Station N) → k < length stations → IsReady due (slice_index_or stations k d)
 
-  abbrev pub AllStep : Due → List (List (List ℕ)) → List (Station N) → List (Station N) → Type 0
-  AllStep due rows olds news = (k : ℕ) (d : Station N) → k < length olds → Steps due rows (slice_index_or olds k d) (slice_index_or news k d)
+  abbrev pub AllStep : Due → List (Station N) → List (Station N) → Type 0
+  AllStep due olds news = (k : ℕ) (d : Station N) → k < length olds → Steps due (slice_index_or olds k d) (slice_index_or news k d)
 
   -- each element stands in its own place, and its link is its own
   abbrev pub AllPlaced : List (Station N) → Type 0
   AllPlaced stations = (k : ℕ) (d : Station N) → k < length stations → (slice_index_or stations k d).link.owner ≡ k
+
+  -- Of an element all stays but the frames that came.
+  pub record Stays (old new : Station N) : Type 0 where
+    pub element : new.element ≡ old.element
+    pub owner : new.link.owner ≡ old.link.owner
+    pub leaves : (to : ℕ) → leaves_at new to ≡ leaves_at old to
+
+  abbrev pub AllStay : List (Station N) → List (Station N) → Type 0
+  AllStay olds news = (k : ℕ) (d : Station N) → k < length olds → Stays (slice_index_or olds k d) (slice_index_or news k d)
 
   -- the elements alone
   abbrev pub elements_of : List (Station N) → List ElementValue

@@ -19,8 +19,7 @@ use crate::journal::Journal;
 use crate::rejoining::rejoin_at;
 use crate::rounds::{rounds_in_turn, rounds_split};
 use crate::stations::Station;
-use crate::tables::{frame_of, silent_table};
-use crate::telling::cells_told;
+use crate::telling::{cells_told, frame_of};
 use bit_vote::Cells;
 use config_table::Table;
 use element_core::{Due, Rejoined};
@@ -40,6 +39,33 @@ pub(crate) struct Network<const N: usize> {
     pub(crate) a2: Vec<Vec<FrameBuf>>,
     pub(crate) b1: Vec<Vec<FrameBuf>>,
     pub(crate) b2: Vec<Vec<FrameBuf>>,
+}
+
+/// A frame of no bytes for each of so many receivers.
+fn silent_row(alloc: Global, n: usize) -> Result<Vec<FrameBuf>, NoMemory>
+    ensures { IfOk result (λ row. rows_of row.items ≡ replicate n []) }
+{
+    let Ok(mut row) = Vec::with_capacity(alloc, n) else {
+        return Err(NoMemory);
+    };
+    for _ in 0..n {
+        row.push_reserved(FrameBuf::new());
+    }
+    Ok(row)
+}
+
+/// The same for each of so many senders.
+fn silent_table(alloc: Global, n: usize) -> Result<Vec<Vec<FrameBuf>>, NoMemory>
+    ensures { IfOk result (λ rows. bytes_in rows.items ≡ replicate n (replicate n [])) }
+{
+    let Ok(mut rows) = Vec::with_capacity(alloc, n) else {
+        return Err(NoMemory);
+    };
+    for _ in 0..n {
+        let row = silent_row(alloc, n)?;
+        rows.push_reserved(row);
+    }
+    Ok(rows)
 }
 
 /// The elements of a table before their first cycle.

@@ -1,12 +1,10 @@
 //! An element with the end of its link.
 
-ghost use Rattle.std.specs.Prelude.{◌≡◌, ◌<◌, IfOk, is_ok, length, if◌then◌else◌};
+ghost use Rattle.std.specs.Prelude.{◌≡◌, ◌≢◌, ℕ, ◌<◌, IfOk, is_ok, if◌then◌else◌};
 ghost use Rattle.element_core.specs.Processors.{read_answer};
 ghost use Rattle.element_core.specs.AloneRun.{actor, own_answer};
 ghost use Rattle.element_core.specs.ElementValue.{after_own_act, fresh};
 
-use crate::incoming::Incoming;
-use crate::tables::silent_row;
 use config_table::Table;
 use element_core::{Due, Element};
 use frame_format::FrameBuf;
@@ -15,24 +13,18 @@ use link_fabric::LinkEnd;
 use packet_format::{Act, ActAnswer, Delivered, Descriptor, Packet};
 use processor_buffers::PostFull;
 use std::alloc::Global;
-use std::mem;
 
 /// An element with the end of its link.
 #[derive(Drop)]
 pub(crate) struct Station<const N: usize> {
     pub(crate) element: Element<N>,
-    /// What leaves the element.
     pub(crate) link: LinkEnd<N>,
-    /// Room for frames that leave, for the link over which the element takes frames.
-    pub(crate) spare: Vec<FrameBuf>,
-    pub(crate) ghost spare_len: { length spare.items ≡ N },
 }
 
 impl<const N: usize> Station<N> {
-    ghost use Rattle.cluster.specs.Carrying.{HasShape, bytes_in};
-    ghost use Rattle.cluster.specs.Stations.{Absorbs, Steps};
+    ghost use Rattle.cluster.specs.Stations.{Steps, Stays, came_at};
 
-    /// An element before its first cycle, which sent no frame.
+    /// An element before its first cycle, to which no frame came.
     pub(crate) fn new(alloc: Global, me: Ne, table: &Table) -> Result<Station<N>, NoMemory>
         requires elements { table.now.n ≡ N }
         requires below { me < N }
@@ -42,45 +34,31 @@ impl<const N: usize> Station<N> {
         Ok(Station {
             element: Element::new(alloc, me, table)?,
             link: LinkEnd::new(me),
-            spare: silent_row(alloc, N)?,
         })
     }
 
-    /// The element takes a step: it puts its frames in its link, or takes what the rows say came to it.
-    pub(crate) fn step(&mut self, due: Due, rows: &[Vec<FrameBuf>])
+    /// The element takes a step over its link.
+    pub(crate) fn step(&mut self, due: Due)
         requires due { self.old.element.due ≡ due }
         requires owner { self.old.link.owner ≡ self.old.element.kept.me }
         requires cycle { self.old.element.kept.cycle < MOST_CYCLES }
-        requires below { self.old.link.owner < N }
-        requires count { length rows.now ≡ N }
-        requires shape { HasShape N (bytes_in rows.now) }
-        ensures { Steps due (bytes_in rows.now) self.old self.new }
+        ensures { Steps due self.old self.new }
     {
         match due {
             Due::Emit(round) => self.element.emit(round, &mut self.link),
-            Due::Absorb(round) => self.absorb(round, rows),
+            Due::Absorb(round) => self.element.absorb(round, &mut self.link),
         }
     }
 
-    /// The element takes the frames of a round where they were delivered.
-    fn absorb(&mut self, round: Round, rows: &[Vec<FrameBuf>])
-        requires due { self.old.element.due ≡ Due.Absorb round }
-        requires owner { self.old.link.owner ≡ self.old.element.kept.me }
-        requires below { self.old.link.owner < N }
-        requires count { length rows.now ≡ N }
-        requires shape { HasShape N (bytes_in rows.now) }
-        ensures { Absorbs round (bytes_in rows.now) self.old self.new }
+    /// A frame comes to it from another element.
+    pub(crate) fn deliver(&mut self, from: Ne, frame: &FrameBuf)
+        requires below { from < N }
+        requires other { from ≢ self.old.link.owner }
+        ensures stays { Stays self.old self.new }
+        ensures came { came_at self.new from ≡ frame.now.items }
+        ensures others { (j : ℕ) → j ≢ from → came_at self.new j ≡ came_at self.old j }
     {
-        let alloc = *self.spare.allocator();
-        let leaves = mem::replace(&mut self.spare, Vec::new(alloc));
-        let mut link = Incoming {
-            owner: self.link.owner,
-            rows,
-            leaves,
-        };
-        self.element.absorb(round, &mut link);
-        let Incoming { leaves, .. } = link;
-        self.spare = leaves;
+        self.link.arrive(from, frame);
     }
 
     /// One of its processors posts a packet with its request.

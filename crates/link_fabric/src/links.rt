@@ -1,8 +1,6 @@
 //! The link of one element.
 
-ghost use Rattle.std.specs.Prelude.{◌≡◌, ◌≢◌, ℕ, ◌<◌, ◌⊎◌, ◌==◌, List, [], IfSome, IsTrue, false, if◌then◌else◌, length, slice_index_or, slice_set, replicate};
-ghost use Rattle.std.proofs.Common.{rules};
-ghost use Rattle.std.proofs.lemmas.Grind.{common_steps};
+ghost use Rattle.std.specs.Prelude.{◌≡◌, ◌≢◌, ℕ, ◌<◌, ◌⊎◌, ◌==◌, List, [], IfSome, if◌then◌else◌, length, slice_index_or, slice_set, replicate};
 ghost use Rattle.link_fabric.specs.Rows.{rows_of};
 
 use arrayvec::ArrayVec;
@@ -77,12 +75,14 @@ pub trait Link<const N: usize> {
 pub struct LinkEnd<const N: usize> {
     pub owner: Ne,
     came: ArrayVec<FrameBuf, N>,
-    leaves: ArrayVec<FrameBuf, N>,
-    /// The frame that leaves for each other element, in place of the rows of `leaves`, while `is_shared` holds.
+    /// The frame that leaves for each other element but those that have a frame of their own in `leaves`.
     shared: FrameBuf,
-    is_shared: bool,
+    leaves: ArrayVec<FrameBuf, N>,
+    /// Which elements have a frame of their own.
+    has_own: [bool; N],
     ghost came_len: { length came.items ≡ N },
     ghost leaves_len: { length leaves.items ≡ N },
+    ghost has_own_len: { length has_own ≡ N },
 }
 
 impl<const N: usize> LinkEnd<N> {
@@ -98,9 +98,9 @@ impl<const N: usize> LinkEnd<N> {
         LinkEnd {
             owner: me,
             came: silence(),
-            leaves: silence(),
             shared: FrameBuf::new(),
-            is_shared: false,
+            leaves: silence(),
+            has_own: [false; N],
         }
     }
 
@@ -122,37 +122,11 @@ impl<const N: usize> LinkEnd<N> {
         requires other { to ≢ self.now.owner }
         ensures { result.now.items ≡ slice_index_or (leaves_of self.now) to [] }
     {
-        if self.is_shared {
-            &self.shared
-        } else {
+        if self.has_own[to.index()] {
             &self.leaves[to.index()]
+        } else {
+            &self.shared
         }
-    }
-
-    /// Each element gets its own row of what leaves.
-    #[inline(never)]
-    #[tactic(auto, unfolding(crate::specs::Ends::leaves_of))]
-    fn spread(&mut self)
-        requires { IsTrue self.old.is_shared }
-        ensures own { self.new.is_shared ≡ false }
-        ensures owner { self.new.owner ≡ self.old.owner }
-        ensures came { self.new.came ≡ self.old.came }
-        ensures leaves { leaves_of self.new ≡ leaves_of self.old }
-    {
-        fill(&self.shared, &mut self.leaves);
-        self.is_shared = false;
-    }
-
-    /// A frame leaves for an element alone, where the rows of the others hold what leaves for them.
-    fn put_own(&mut self, to: Ne, frame: &FrameBuf)
-        requires own { self.old.is_shared ≡ false }
-        requires below { to < N }
-        requires other { to ≢ self.old.owner }
-        ensures frame { leaves_of self.new ≡ slice_set (leaves_of self.old) to frame.now.items }
-        ensures owner { self.new.owner ≡ self.old.owner }
-        ensures came { self.new.came ≡ self.old.came }
-    {
-        copy_frame(frame, &mut self.leaves[to.index()]);
     }
 }
 
@@ -167,19 +141,8 @@ fn silence<const N: usize>() -> ArrayVec<FrameBuf, N>
     row
 }
 
-/// Writes a frame over the one of each element.
-fn fill<const N: usize>(frame: &FrameBuf, rows: &mut ArrayVec<FrameBuf, N>)
-    requires { length rows.old.items ≡ N }
-    ensures rows { rows_of rows.new.items ≡ replicate N frame.now.items }
-    ensures count { length rows.new.items ≡ N }
-{
-    for k in 0..N {
-        copy_frame(frame, &mut rows[k]);
-    }
-}
-
 impl<const N: usize> Link<N> for LinkEnd<N> {
-    ghost use Rattle.link_fabric.specs.Ends.{came_of, leaves_of, leaves_wide};
+    ghost use Rattle.link_fabric.specs.Ends.{came_of, came_wide, leaves_of, leaves_wide};
 
     ghost me = { λ s. s.owner };
 
@@ -187,7 +150,7 @@ impl<const N: usize> Link<N> for LinkEnd<N> {
 
     ghost leaves = { λ s. leaves_of s };
 
-    ghost came_width = { λ s. Prim.search (rules, common_steps) };
+    ghost came_width = { λ s. came_wide s };
 
     ghost leaves_width = { λ s. leaves_wide s };
 
@@ -200,14 +163,13 @@ impl<const N: usize> Link<N> for LinkEnd<N> {
     }
 
     fn put(&mut self, to: Ne, frame: &FrameBuf) {
-        if self.is_shared {
-            self.spread();
-        }
-        self.put_own(to, frame);
+        copy_frame(frame, &mut self.leaves[to.index()]);
+        self.has_own[to.index()] = true;
     }
 
     fn put_all(&mut self, _owner: Ne, frame: &FrameBuf) {
         copy_frame(frame, &mut self.shared);
-        self.is_shared = true;
+        let nobody = [false; N];
+        self.has_own = nobody;
     }
 }
