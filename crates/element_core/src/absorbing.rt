@@ -10,8 +10,9 @@ use ftpp_base::Round;
 use link_fabric::Link;
 
 impl<const N: usize> Element<N> {
-    /// Takes the frame of a round from each other element, whatever its bytes are. After B2 the cycle is over: heads are
-    /// gone, the packet is delivered, an update is applied, and what was seen of the others is noted.
+    /// Takes the frame of a round from each other element, whatever its bytes are; those of B2 only where they matter.
+    /// After B2 the cycle is over: heads are gone, the packet is delivered, an update is applied, and what was seen of the
+    /// others is noted.
     pub fn absorb<L: Link<N>>(&mut self, round: Round, link: &mut L)
         requires due { self.old.due ≡ Due.Absorb round }
         requires owner { L.me link.old ≡ self.old.kept.me }

@@ -28,6 +28,7 @@ impl<const N: usize> Element<N> {
         requires { self.old.due ≡ Due.Absorb Round.B2 }
         ensures { self.new ≡ ended_with self.old self.old.heard }
     {
+        // room that `settle` writes over
         let mut results = self.packets.echo();
         let sent = relayed(&self.pending.decision);
         let differing = self.packets.settle(sent, &mut results);

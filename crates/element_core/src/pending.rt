@@ -24,7 +24,7 @@ use two_round::TwoRound;
 pub(crate) struct Pending<const N: usize> {
     /// The result for each element.
     pub(crate) results: Cells<N, 32>,
-    /// The elements about which the words differ.
+    /// The elements about which some word is not the own copy.
     pub(crate) differing: Set8,
     pub(crate) pattern: SystemPattern<N>,
     pub(crate) decision: Decision,

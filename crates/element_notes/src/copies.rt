@@ -1,5 +1,4 @@
-//! Copies and relayed rows that differ from the results. An exchange in two rounds goes with the
-//! results for the senders that count.
+//! Copies and relayed rows that differ from the results, about the senders that are looked at.
 
 ghost use Rattle.std.specs.Prelude.{◌≡◌, ◌≢◌, ℕ, Bool, ◌+◌, ◌<◌, ◌≤◌, ◌++◌, not, length};
 ghost use Rattle.ftpp_base.specs.Sets.{has};
@@ -54,42 +53,42 @@ fn word<const N: usize, const B: usize>(
     }
 }
 
-/// Whether a sender is another than the one whose word it is, counts, and the word differs from
+/// Whether a sender is another than the one whose word it is, is looked at, and the word differs from
 /// the result.
 fn is_off_word<const N: usize, const B: usize>(
     x: &TwoRound<N, B>,
     results: &Cells<N, B>,
-    counts: &Set8,
+    looked_at: &Set8,
     me: Ne,
     of: Ne,
     sender: Ne,
 ) -> bool
-    requires whole { IsWhole N me x.now counts.now results.now }
+    requires whole { IsWhole N me x.now looked_at.now results.now }
     requires of { of < N }
     requires sender { sender < N }
-    ensures { result ≡ is_off_word x.now counts.now of sender }
+    ensures { result ≡ is_off_word x.now looked_at.now of sender }
 {
     sender != of
-        && counts.has(sender.byte())
+        && looked_at.has(sender.byte())
         && differ(&word(x, me, of, sender), &results.get(sender.index()))
 }
 
-/// The senders about whom an element's word differs from the result.
+/// The senders that are looked at about whom an element's word differs from the result.
 fn off_words<const N: usize, const B: usize>(
     x: &TwoRound<N, B>,
     results: &Cells<N, B>,
-    counts: &Set8,
+    looked_at: &Set8,
     me: Ne,
     of: Ne,
 ) -> Set8
-    requires whole { IsWhole N me x.now counts.now results.now }
+    requires whole { IsWhole N me x.now looked_at.now results.now }
     requires of { of < N }
-    ensures { (s : ℕ) → s < N → has result s ≡ is_off_word x.now counts.now of s }
+    ensures { (s : ℕ) → s < N → has result s ≡ is_off_word x.now looked_at.now of s }
 {
     let mut off = Set8::EMPTY;
     for k in 0..N {
         let sender = Ne::at(k);
-        let is_off = is_off_word(x, results, counts, me, of, sender);
+        let is_off = is_off_word(x, results, looked_at, me, of, sender);
         off = put_if(&off, is_off, k as u8);
     }
     off
@@ -99,17 +98,17 @@ fn off_words<const N: usize, const B: usize>(
 fn note_copies<const N: usize, const B: usize>(
     x: &TwoRound<N, B>,
     results: &Cells<N, B>,
-    counts: &Set8,
+    looked_at: &Set8,
     me: Ne,
     heading: &Heading,
     out: &mut Notes,
 )
-    requires whole { IsWhole N me x.now counts.now results.now }
+    requires whole { IsWhole N me x.now looked_at.now results.now }
     requires room { length out.old.items ≤ 59 }
-    ensures items { out.new.items ≡ out.old.items ++ off_copies heading.now.cycle heading.now.kind x.now N (has counts.now) }
+    ensures items { out.new.items ≡ out.old.items ++ off_copies heading.now.cycle heading.now.kind x.now N (has looked_at.now) }
     ensures few { length out.new.items ≤ length out.old.items + 4 }
 {
-    let off = off_words(x, results, counts, me, me);
+    let off = off_words(x, results, looked_at, me, me);
     note_each(out, heading, &Accused::Itself, N as u8, &off);
 }
 
@@ -117,20 +116,20 @@ fn note_copies<const N: usize, const B: usize>(
 fn note_relay<const N: usize, const B: usize>(
     x: &TwoRound<N, B>,
     results: &Cells<N, B>,
-    counts: &Set8,
+    looked_at: &Set8,
     me: Ne,
     relay: Ne,
     heading: &Heading,
     out: &mut Notes,
 )
-    requires whole { IsWhole N me x.now counts.now results.now }
+    requires whole { IsWhole N me x.now looked_at.now results.now }
     requires relay { relay < N }
     requires other { relay ≢ me }
     requires room { length out.old.items ≤ 59 }
-    ensures items { out.new.items ≡ out.old.items ++ off_by heading.now.cycle heading.now.kind x.now N (has counts.now) relay }
+    ensures items { out.new.items ≡ out.old.items ++ off_by heading.now.cycle heading.now.kind x.now N (has looked_at.now) relay }
     ensures few { length out.new.items ≤ length out.old.items + 4 }
 {
-    let off = off_words(x, results, counts, me, relay);
+    let off = off_words(x, results, looked_at, me, relay);
     note_each(out, heading, &Accused::Relay(relay), N as u8, &off);
 }
 
@@ -138,20 +137,20 @@ fn note_relay<const N: usize, const B: usize>(
 fn note_relays<const N: usize, const B: usize>(
     x: &TwoRound<N, B>,
     results: &Cells<N, B>,
-    counts: &Set8,
+    looked_at: &Set8,
     me: Ne,
     heading: &Heading,
     out: &mut Notes,
 )
-    requires whole { IsWhole N me x.now counts.now results.now }
+    requires whole { IsWhole N me x.now looked_at.now results.now }
     requires room { length out.old.items ≤ 43 }
-    ensures items { out.new.items ≡ out.old.items ++ off_relays heading.now.cycle heading.now.kind x.now N (has counts.now) }
+    ensures items { out.new.items ≡ out.old.items ++ off_relays heading.now.cycle heading.now.kind x.now N (has looked_at.now) }
     ensures few { length out.new.items ≤ length out.old.items + 16 }
 {
     for k in 0..N {
         let relay = Ne::at(k);
         if relay != me {
-            note_relay(x, results, counts, me, relay, heading, out);
+            note_relay(x, results, looked_at, me, relay, heading, out);
         }
     }
 }

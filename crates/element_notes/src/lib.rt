@@ -116,14 +116,14 @@ pub fn note_differing<const N: usize>(
         entry,
     } = *seen;
     let Differing {
-        patterns: odd_patterns,
-        packets: odd_packets,
+        patterns: differing_patterns,
+        packets: differing_packets,
     } = *differing;
     out.clear();
     note_exchange(
         patterns,
         pattern_results,
-        &odd_patterns,
+        &differing_patterns,
         me,
         &PATTERNS,
         cycle,
@@ -134,7 +134,7 @@ pub fn note_differing<const N: usize>(
     note_exchange(
         packets,
         packet_results,
-        &odd_packets,
+        &differing_packets,
         me,
         &PACKETS,
         cycle,

@@ -1,12 +1,10 @@
 //! The scoreboard.
 
-ghost use Rattle.std.specs.Prelude.{◌≡◌, ◌+◌, ◌<◌, ◌≤◌, ℕ, [], map, true, is_some};
-ghost use Rattle.sender_choice.specs.Sinces.{is_held};
-ghost use Rattle.sender_choice.specs.Pairs.{sinces_of};
-ghost use Rattle.config_table.specs.Table.{IsValid, group_named};
+ghost use Rattle.std.specs.Prelude.{◌≡◌, ◌+◌, ◌<◌, ℕ, [], map, true};
+ghost use Rattle.config_table.specs.Table.{IsValid};
 ghost use Rattle.scoreboard.specs.Board.{empty_scoreboard, line_of, marked, without_request, after_update, request_of, starved_of, lag_of};
 ghost use Rattle.scoreboard.specs.Choice.{decision_of, after_decision, scoreboard_decision, scoreboard_after};
-ghost use Rattle.scoreboard.specs.Steps.{sinces_in, line_but, lines_but};
+ghost use Rattle.scoreboard.specs.Steps.{line_but, lines_but};
 ghost use Rattle.scoreboard.specs.Times.{AreBefore, AreOthersHeldBy, AreLinesOf, OnlyMembersLag, OnlyOthersLag, lines_for};
 
 use crate::choice::put_choosable;

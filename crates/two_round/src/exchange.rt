@@ -246,6 +246,7 @@ impl<const N: usize, const B: usize> TwoRound<N, B> {
         ensures results { result ≡ each_below N (result_for self.now) }
         ensures few { N ≤ 5 }
     {
+        // room that `settle_all` writes over
         let mut results = self.copies;
         let _differing = self.settle_all(&mut results);
         results
@@ -256,13 +257,14 @@ impl<const N: usize, const B: usize> TwoRound<N, B> {
         ensures results { result ≡ each_below N (result_of sources self.now) }
         ensures few { N ≤ 5 }
     {
+        // room that `settle` writes over
         let mut results = self.copies;
         let _differing = self.settle(sources, &mut results);
         results
     }
 
-    /// Like `results_of`, but writes the results in place of other ones, and tells about which sources of the set the
-    /// words differ. The words about any other source of the set are all equal to its result.
+    /// Like `results_of`, but writes the results over other ones, and tells the sources of the set about which some word is
+    /// not the own copy. The words about any other source of the set are all equal to its result.
     pub fn settle(&self, sources: Set8, results: &mut Cells<N, B>) -> Set8
         ensures results { results.new ≡ each_below N (result_of sources self.now) }
         ensures few { N ≤ 5 }

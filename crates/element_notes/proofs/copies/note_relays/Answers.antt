@@ -8,7 +8,7 @@ use Rattle.element_notes.proofs.copies.note_relays.Goals.{then-ne, else-ne}
 
 pub loop-k-preserved : goal.loop-k-preserved
 loop-k-preserved g c =
-    let by = off_by c.args.heading.now.cycle c.args.heading.now.kind c.args.x.now g.row.N (has c.args.counts.now) in
+    let by = off_by c.args.heading.now.cycle c.args.heading.now.kind c.args.x.now g.row.N (has c.args.looked_at.now) in
     let before = c.loop-k.invariant in
     let k = c.loop-k.k in
     elim c.if-ne.branch [
