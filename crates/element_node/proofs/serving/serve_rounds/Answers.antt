@@ -1,4 +1,4 @@
-use Rattle.std.proofs.Common.{◌≡◌, ap, sym, ◌∙◌, Option, List, ℕ}
+use Rattle.std.proofs.Common.{◌≡◌, ap, sym, ◌∙◌, Option, List, ℕ, inl, inr, arith}
 use Rattle.ftpp_base.specs.declared.element.Round.TheVariants.{A1, A2, B1, B2}
 use Rattle.element_core.specs.ElementValue.{ElementValue}
 use Rattle.element_node.specs.Dialog.{Dialog, write_then}
@@ -50,3 +50,15 @@ returns-clause-halted g c =
     c.in_ok-serve_round-2.ensures.served)
     c.in_ok-serve_round-3.ensures.served)
     c.serve_round-4.ensures.halted
+
+pub serve_round-requires-3 : goal.serve_round-requires-3
+serve_round-requires-3 g c = (
+  elim c.requires.size [ inl e ↦ rw e (omega arith) | inr e ↦ rw e (omega arith) ],
+  (elim c.requires.size [ inl e ↦ rw e (omega arith) | inr e ↦ rw e (omega arith) ], (c.requires.size, (c.in_ok-serve_round-2.ensures.due, (omega (arith, c.requires.cycle, c.in_ok-serve_round.ensures.cycle, c.in_ok-serve_round-2.ensures.cycle), (c.in_ok-serve_round-2.ensures.owner, (c.in_ok-serve_round-2.ensures.own, c.in_ok-serve_round-2.ensures.room)))))),
+)
+
+pub serve_round-requires-4 : goal.serve_round-requires-4
+serve_round-requires-4 g c = (
+  elim c.requires.size [ inl e ↦ rw e (omega arith) | inr e ↦ rw e (omega arith) ],
+  (elim c.requires.size [ inl e ↦ rw e (omega arith) | inr e ↦ rw e (omega arith) ], (c.requires.size, (c.in_ok-serve_round-3.ensures.due, (omega (arith, c.requires.cycle, c.in_ok-serve_round.ensures.cycle, c.in_ok-serve_round-2.ensures.cycle, c.in_ok-serve_round-3.ensures.cycle), (c.in_ok-serve_round-3.ensures.owner, (c.in_ok-serve_round-3.ensures.own, c.in_ok-serve_round-3.ensures.room)))))),
+)
