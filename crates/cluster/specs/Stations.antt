@@ -7,6 +7,7 @@ use Rattle.link_fabric.specs.Ends.{came_of, leaves_of}
 use Rattle.element_core.specs.declared.Due.{Due}
 use Rattle.element_core.specs.declared.Due.TheVariants.{Emit, Absorb}
 use Rattle.element_core.specs.ElementValue.{ElementValue, after_emit, after_absorb, frame_of, frames_in}
+use Rattle.cluster.specs.Delivered.{frame_in}
 use Rattle.cluster.specs.declared.stations.Station.{Station}
 
 module _ {N : ℕ} where
@@ -50,14 +51,22 @@ module _ {N : ℕ} where
   abbrev pub AllPlaced : List (Station N) → Type 0
   AllPlaced stations = (k : ℕ) (d : Station N) → k < length stations → (slice_index_or stations k d).link.owner ≡ k
 
-  -- Of an element all stays but the frames that came.
-  pub record Stays (old new : Station N) : Type 0 where
+  -- An element took the frames of a round where they were delivered, by sender and receiver.
+  pub record Takes (round : Round) (rows : List (List (List ℕ))) (old new : Station N) : Type 0 where
+    pub element : new.element ≡ after_absorb round (λ s. frame_in rows s old.link.owner) old.element
+    pub owner : new.link.owner ≡ old.link.owner
+
+  abbrev pub AllTake : Round → List (List (List ℕ)) → List (Station N) → List (Station N) → Type 0
+  AllTake round rows olds news = (k : ℕ) (d : Station N) → k < length olds → Takes round rows (slice_index_or olds k d) (slice_index_or news k d)
+
+  -- The frames that were delivered to an element came to its link, and the element stays.
+  pub record Receives (rows : List (List (List ℕ))) (old new : Station N) : Type 0 where
     pub element : new.element ≡ old.element
     pub owner : new.link.owner ≡ old.link.owner
-    pub leaves : (to : ℕ) → leaves_at new to ≡ leaves_at old to
+    pub came : (from : ℕ) → from < N → from ≢ old.link.owner → came_at new from ≡ frame_in rows from old.link.owner
 
-  abbrev pub AllStay : List (Station N) → List (Station N) → Type 0
-  AllStay olds news = (k : ℕ) (d : Station N) → k < length olds → Stays (slice_index_or olds k d) (slice_index_or news k d)
+  abbrev pub AllReceive : List (List (List ℕ)) → List (Station N) → List (Station N) → Type 0
+  AllReceive rows olds news = (k : ℕ) (d : Station N) → k < length olds → Receives rows (slice_index_or olds k d) (slice_index_or news k d)
 
   -- the elements alone
   abbrev pub elements_of : List (Station N) → List ElementValue

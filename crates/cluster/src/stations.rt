@@ -1,10 +1,14 @@
 //! An element with the end of its link.
 
-ghost use Rattle.std.specs.Prelude.{◌≡◌, ◌≢◌, ℕ, ◌<◌, IfOk, is_ok, if◌then◌else◌};
+ghost use Rattle.std.specs.Prelude.{◌≡◌, ◌≢◌, ℕ, ◌<◌, ◌⊎◌, IfOk, is_ok, length, if◌then◌else◌};
 ghost use Rattle.element_core.specs.Processors.{read_answer};
 ghost use Rattle.element_core.specs.AloneRun.{actor, own_answer};
 ghost use Rattle.element_core.specs.ElementValue.{after_own_act, fresh};
+ghost use Rattle.cluster.specs.Carrying.{HasShape, bytes_in};
+ghost use Rattle.cluster.specs.Delivered.{frame_in};
 
+use crate::table_link::TableLink;
+use crate::telling::frame_of;
 use config_table::Table;
 use element_core::{Due, Element};
 use frame_format::FrameBuf;
@@ -22,7 +26,7 @@ pub(crate) struct Station<const N: usize> {
 }
 
 impl<const N: usize> Station<N> {
-    ghost use Rattle.cluster.specs.Stations.{Steps, Stays, came_at};
+    ghost use Rattle.cluster.specs.Stations.{Receives, Steps, Takes, came_at};
 
     /// An element before its first cycle, to which no frame came.
     pub(crate) fn new(alloc: Global, me: Ne, table: &Table) -> Result<Station<N>, NoMemory>
@@ -50,15 +54,47 @@ impl<const N: usize> Station<N> {
         }
     }
 
-    /// A frame comes to it from another element.
-    pub(crate) fn deliver(&mut self, from: Ne, frame: &FrameBuf)
-        requires below { from < N }
-        requires other { from ≢ self.old.link.owner }
-        ensures stays { Stays self.old self.new }
-        ensures came { came_at self.new from ≡ frame.now.items }
-        ensures others { (j : ℕ) → j ≢ from → came_at self.new j ≡ came_at self.old j }
+    /// The element takes the frames of a round where they were delivered.
+    pub(crate) fn take(&mut self, round: Round, rows: &[Vec<FrameBuf>])
+        requires due { self.old.element.due ≡ Due.Absorb round }
+        requires owner { self.old.link.owner ≡ self.old.element.kept.me }
+        requires below { self.old.link.owner < N }
+        requires count { length rows.now ≡ N }
+        requires shape { HasShape N (bytes_in rows.now) }
+        ensures { Takes round (bytes_in rows.now) self.old self.new }
     {
-        self.link.arrive(from, frame);
+        let mut link = TableLink::new(self.link.owner, rows);
+        self.element.absorb(round, &mut link);
+    }
+
+    /// The frame that was delivered to it from an element comes to its link; none comes from itself.
+    fn receive_one(&mut self, from: Ne, rows: &[Vec<FrameBuf>])
+        requires from { from < N }
+        requires below { self.old.link.owner < N }
+        requires count { length rows.now ≡ N }
+        requires shape { HasShape N (bytes_in rows.now) }
+        ensures element { self.new.element ≡ self.old.element }
+        ensures owner { self.new.link.owner ≡ self.old.link.owner }
+        ensures others { (j : ℕ) → j ≢ from → came_at self.new j ≡ came_at self.old j }
+        ensures came { from ≢ self.old.link.owner → came_at self.new from ≡ frame_in (bytes_in rows.now) from self.old.link.owner }
+    {
+        let me = self.link.owner;
+        if from != me {
+            self.link.arrive(from, frame_of::<N>(rows, from, me));
+        }
+    }
+
+    /// The frames that were delivered to it come to its link.
+    pub(crate) fn receive(&mut self, rows: &[Vec<FrameBuf>])
+        requires size { (N ≡ 4) ⊎ (N ≡ 5) }
+        requires below { self.old.link.owner < N }
+        requires count { length rows.now ≡ N }
+        requires shape { HasShape N (bytes_in rows.now) }
+        ensures { Receives (bytes_in rows.now) self.old self.new }
+    {
+        for k in 0..N {
+            self.receive_one(Ne::at(k), rows);
+        }
     }
 
     /// One of its processors posts a packet with its request.

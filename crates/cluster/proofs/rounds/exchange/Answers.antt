@@ -26,9 +26,7 @@ carry_all-requires g c = (
 )
 
 pub returns-clause-exchanged : goal.returns-clause-exchanged
-returns-clause-exchanged g c =
-    exchanged c.args.faulty.now c.args.at c.args.stations.now c.play.new.stations c.carry_all.new.stations (bytes_in c.carry_all.new.rows) _ _ c.play.auto.stations
-    (record { others = c.play.ensures.others; played = c.play.ensures.played }) c.carry_all.ensures.carried
+returns-clause-exchanged g c = exchanged c.args.faulty.now c.args.at c.args.stations.now c.play.new.stations _ _ (record { others = c.play.ensures.others; played = c.play.ensures.played })
 
 pub returns-clause-left : goal.returns-clause-left
 returns-clause-left g c h =
